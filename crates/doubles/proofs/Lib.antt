@@ -1,0 +1,10 @@
+-- Laws of doubles, for the crates above.
+pub mod Signs
+pub mod Nonneg
+pub mod Value
+pub mod Within
+pub mod Exponent
+pub mod Fields
+pub mod Exactly
+pub mod SignBit
+pub mod Magnitude

@@ -1,0 +1,58 @@
+// Magnitude, sign, order and finiteness of an f64, on every bit pattern.
+ghost use mathlib.Core.Path.{_≡_};
+ghost use lib.Ieee.Scale.{finite};
+ghost use Rattle.doubles.specs.Magnitude.{abs, max, min, negative, withinLimits};
+
+// |x|, a NaN staying one.
+pub fn abs(x: f64) -> f64
+    ensures { λ r. ⌜ r ≡ abs x ⌝ }
+{
+    if x != x {
+        return x;
+    }
+    f64::from_bits(f64::to_bits(x) & 0x7fff_ffff_ffff_ffff)
+}
+
+// The sign bit, of a zero too; false for a NaN.
+pub fn is_sign_negative(x: f64) -> bool
+    ensures { λ r. ⌜ r ≡ negative x ⌝ }
+{
+    if x != x {
+        return false;
+    }
+    0x8000_0000_0000_0000 <= f64::to_bits(x)
+}
+
+// The larger of x and y. A NaN is passed over.
+pub fn max(x: f64, y: f64) -> f64
+    ensures { λ r. ⌜ r ≡ max x y ⌝ }
+{
+    if x != x {
+        return y;
+    }
+    if x < y { y } else { x }
+}
+
+// The smaller of x and y. A NaN is passed over.
+pub fn min(x: f64, y: f64) -> f64
+    ensures { λ r. ⌜ r ≡ min x y ⌝ }
+{
+    if x != x {
+        return y;
+    }
+    if y < x { y } else { x }
+}
+
+// Neither a NaN nor an infinity.
+pub fn is_finite(x: f64) -> bool
+    ensures { λ r. ⌜ r ≡ finite x ⌝ }
+{
+    abs(x) < 1.0 / 0.0
+}
+
+// The test of refusal 3: finite, and of magnitude at most 10⁹. The second implies the first.
+pub fn within_limits(x: f64) -> bool
+    ensures { λ r. ⌜ r ≡ withinLimits x ⌝ }
+{
+    abs(x) <= 1e9
+}
