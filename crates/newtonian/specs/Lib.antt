@@ -1,0 +1,3 @@
+-- Vectors of three doubles, and sums in the Rust's order.
+pub mod Vectors
+pub mod Fold

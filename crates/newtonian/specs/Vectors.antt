@@ -1,0 +1,13 @@
+-- Vectors of three doubles, each operation rounded, sums from left to right. Definitions only.
+use lib.Ieee.{Float}
+use Rattle.doubles.specs.Rounded.{_⊕_, _⊖_, _⊗_}
+use Rattle.newtonian.specs.declared.Vector.{Vector}
+
+unfoldable pub difference : Vector → Vector → Vector
+difference a b = record { x = a .x ⊖ b .x; y = a .y ⊖ b .y; z = a .z ⊖ b .z }
+
+unfoldable pub dot : Vector → Vector → Float
+dot a b = a .x ⊗ b .x ⊕ a .y ⊗ b .y ⊕ a .z ⊗ b .z
+
+unfoldable pub cross : Vector → Vector → Vector
+cross a b = record { x = a .y ⊗ b .z ⊖ a .z ⊗ b .y; y = a .z ⊗ b .x ⊖ a .x ⊗ b .z; z = a .x ⊗ b .y ⊖ a .y ⊗ b .x }
