@@ -13,14 +13,7 @@ use lib.Ieee.Fits.{round-is, and-l}
 use lib.Ieee.Exact.{HasValue, odd-sign}
 use lib.Ieee.Order.{le-of-values, round-mono}
 use lib.Ieee.Positive.{num, den, den-pos, positive, value-pos, own-value, through}
-use Rattle.doubles.specs.Magnitude.{abs}
-
--- finite, and not negative: -0 is out
-abbrev pub nonneg : Float → Bool
-nonneg nan = false
-nonneg (inf s) = false
-nonneg (fin true m e) = false
-nonneg (fin false m e) = true
+use Rattle.doubles.specs.Magnitude.{abs, nonneg}
 
 pub own : (x : Float) → T (nonneg x) → HasValue x false (num x) (den x)
 own nan p = absurd p
@@ -57,6 +50,16 @@ le→cross (fin false m e) nan p q h = absurd q
 le→cross (fin false m e) (inf t) p q h = absurd q
 le→cross (fin false m e) (fin true n d) p q h = absurd q
 le→cross (fin false m e) (fin false n d) p q h = lt-or-eq (m * up e * down d) (n * up d * down e) h
+
+pub lt→cross : (x y : Float) → T (nonneg x) → T (nonneg y) → T (lt x y) → num x * den y < num y * den x
+unfolding lt
+lt→cross nan y p q h = absurd p
+lt→cross (inf s) y p q h = absurd p
+lt→cross (fin true m e) y p q h = absurd p
+lt→cross (fin false m e) nan p q h = absurd q
+lt→cross (fin false m e) (inf t) p q h = absurd q
+lt→cross (fin false m e) (fin true n d) p q h = absurd q
+lt→cross (fin false m e) (fin false n d) p q h = ltb→lt (m * up e * down d) (n * up d * down e) h
 
 pub cross→le : (x y : Float) → T (nonneg x) → T (nonneg y) → num x * den y ≤ num y * den x → T (le x y)
 cross→le x y p q h = le-of-values x y (num x) (den x) (num y) (den y) (den-pos x) (den-pos y) (own x p) (own y q) h

@@ -10,8 +10,8 @@ use lib.Dec.{T, leb, eqb, ltb, leb→le, nleb→lt, ltb→lt, nltb→le, lt→lt
 use lib.Ieee.{Float, nan, inf, fin, Format, up, down, round, fits, sum, add, sub, neg, mul, div, le, unlike}
 use lib.Ieee.Order.{round-mono}
 use lib.Ieee.Positive.{num, den, den-pos, positive, first-pos}
-use Rattle.doubles.specs.Magnitude.{abs}
-use Rattle.doubles.proofs.Nonneg.{nonneg, nonneg-of-positive, le→cross, cross→le, le-trans-nonneg, round-nonneg, add-is, mul-is, div-is, add-mono, mul-mono, div-mono, abs-round, num-pos}
+use Rattle.doubles.specs.Magnitude.{abs, nonneg}
+use Rattle.doubles.proofs.Nonneg.{nonneg-of-positive, le→cross, cross→le, le-trans-nonneg, round-nonneg, add-is, mul-is, div-is, add-mono, mul-mono, div-mono, abs-round, num-pos}
 use Rattle.doubles.proofs.Value.{round-own}
 
 pub record Within (lo hi x : Float) : Type 0 where

@@ -1,5 +1,5 @@
 -- The magnitude and the sign of a double, the larger and the smaller of two, and the test of refusal 3. Definitions only.
-use mathlib.Core.Bool.{Bool, false, _&&_, _||_, cond}
+use mathlib.Core.Bool.{Bool, true, false, _&&_, _||_, cond}
 use lib.Ieee.{Float, nan, inf, fin, lt, le, isNan}
 use lib.Ieee.Scale.{finite}
 use Rattle.doubles.specs.Constants.{10⁹}
@@ -15,6 +15,13 @@ unfoldable pub negative : Float → Bool
 negative nan = false
 negative (inf s) = s
 negative (fin s m e) = s
+
+-- finite, and not negative: -0 is left out
+abbrev pub nonneg : Float → Bool
+nonneg nan = false
+nonneg (inf s) = false
+nonneg (fin true m e) = false
+nonneg (fin false m e) = true
 
 -- the larger of x and y, which passes over a NaN; x where they are equal, as +0 and -0 are
 unfoldable pub max : Float → Float → Float

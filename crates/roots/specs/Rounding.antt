@@ -1,0 +1,236 @@
+-- How `rootOf` rounds √n: to c * 2 ^ k, with √n from (c - 1/2) * 2 ^ k to (c + 1/2) * 2 ^ k. So c * 2 ^ k is nearest to √n among all numbers of 53 digits. Assumes nothing.
+use mathlib.Core.Path.{_≡_, refl, sym, ap, _∙_, subst}
+use mathlib.Core.Logic.{_⊎_, inl, inr, ⊎-elim}
+use Prim.Native.Nat.{ℕ, zero, suc, _+_, _-_, _*_, _/_, _%_, _^_, _≤_, _<_, compare, Ordering, Ordering·lt, Ordering·eq, Ordering·gt}
+use native.Mathlib.Nat.{le-trans, le-of-eq, le-of-lt, lt-of-lt-of-le, lt-of-le-of-lt, lt-of-not-le, not-le-of-lt, mul-le-mul, mul-le-mul-left, mul-le-mul-right, mul-lt-mul-of-pos-right, lt-of-mul-lt-mul-right, mul-assoc, div-mul-le-self, lt-div-mul-add, le-div-iff-mul-le}
+use native.Mathlib.Omega.{arith}
+use native.Mathlib.Decide.{decLe}
+use mathlib.Core.Bool.{false, not}
+use lib.Dec.{T, isLe, isEq, leb→le, nleb→lt, eqb→eq}
+use lib.Pow.{pow-pos, pow-add, pow-mono, shl-lt}
+use lib.Ieee.{Float, binary64, size, nearest, units}
+use lib.Ieee.Digits.{size-reaches}
+use lib.Ieee.Fits.{kept-lt, nearest-le}
+use lib.Ieee.Nearest.{nearest-ge}
+use Rattle.roots.specs.Root.{isqrt, rootOf}
+use Rattle.roots.specs.WholeRoot.{isqrt-law}
+
+-- All is doubled and squared, P being 2 ^ k.
+abbrev pub sq : ℕ → ℕ → ℕ
+sq P x = x * P * (x * P)
+
+pub record Rounded (n c k : ℕ) : Type 0 where
+  -- √n is within half a step of c * 2 ^ k
+  pub low : sq (2 ^ k) (2 * c - 1) ≤ 4 * n
+  pub high : 4 * n ≤ sq (2 ^ k) (2 * c + 1)
+  -- c has at most 53 digits, or is 2 ^ 53
+  pub digits : c ≤ 2 ^ 53
+  -- c has 53 digits, and so has √n before it is rounded, or 2 ^ k is the format's smallest value
+  pub finest : ((2 ^ 52 ≤ c) × (sq (2 ^ k) (2 ^ 52) ≤ n)) ⊎ (k ≡ 0)
+
+-- ---- squares
+
+sq-le : (P x y : ℕ) → x ≤ y → sq P x ≤ sq P y
+sq-le P x y h = let g : x * P ≤ y * P = mul-le-mul-right P h in mul-le-mul g g
+
+pub sq-lt-back : (a b : ℕ) → a * a < b * b → a < b
+sq-lt-back a b h = lt-of-not-le (λ (g : b ≤ a). not-le-of-lt h (mul-le-mul g g))
+
+-- ---- the three cases of the comparison. D is 4 * n
+
+Ends : ℕ → ℕ → ℕ → Type 0
+Ends P D c = (sq P (2 * c - 1) ≤ D) × (D ≤ sq P (2 * c + 1))
+
+module _ (P D q : ℕ) (lo : sq P (2 * q) ≤ D) (hi : D < sq P (2 * q + 2)) where
+  ends : (o : Ordering) → (T (isLe o) → D ≤ sq P (2 * q + 1)) → (T (not (isLe o)) → sq P (2 * q + 1) < D) → (T (isEq o) → D ≡ sq P (2 * q + 1)) → Ends P D (nearest q o)
+  unfolding Ends
+  ends Ordering·lt a b e = (le-trans (sq-le P (2 * q - 1) (2 * q) (omega arith)) lo, a tt)
+  ends Ordering·eq a b e =
+      let h = e tt in (
+        le-trans (sq-le P (2 * (q + q % 2) - 1) (2 * q + 1) (omega arith)) (le-of-eq (sym h)),
+        le-trans (le-of-eq h) (sq-le P (2 * q + 1) (2 * (q + q % 2) + 1) (omega arith)),
+      )
+  ends Ordering·gt a b e = (
+    le-trans (sq-le P (2 * suc q - 1) (2 * q + 1) (omega arith)) (le-of-lt (b tt)),
+    le-trans (le-of-lt hi) (sq-le P (2 * q + 2) (2 * suc q + 1) (omega arith)),
+  )
+
+-- ---- the root's leading digits, q, and how many are dropped, k
+
+module _ (n : ℕ) where
+  s : ℕ
+  s = isqrt n
+
+  k : ℕ
+  unfolding s
+  k = size s - 53
+
+  q : ℕ
+  unfolding k s
+  q = s / 2 ^ k
+
+  o : Ordering
+  unfolding q k s
+  o = compare (4 * n) (sq (2 ^ k) (2 * q + 1))
+
+  q-low : sq (2 ^ k) (2 * q) ≤ 4 * n
+  unfolding q k s
+  q-low =
+      let a : q * 2 ^ k ≤ s = div-mul-le-self s (2 ^ k) in
+      let b : q * 2 ^ k * (q * 2 ^ k) ≤ s * s = mul-le-mul a a in
+      let r = isqrt-law n .0 in
+      omega arith
+
+  q-high : 4 * n < sq (2 ^ k) (2 * q + 2)
+  unfolding q k s
+  q-high =
+      let a : s < q * 2 ^ k + 2 ^ k = lt-div-mul-add (pow-pos k) in
+      let b : s + 1 ≤ (q + 1) * 2 ^ k = omega arith in
+      let d : (s + 1) * (s + 1) ≤ (q + 1) * 2 ^ k * ((q + 1) * 2 ^ k) = mul-le-mul b b in
+      let r = isqrt-law n .1 in
+      omega arith
+
+  q-finest : ((2 ^ 52 ≤ nearest q o) × (sq (2 ^ k) (2 ^ 52) ≤ n)) ⊎ (k ≡ 0)
+  unfolding o q k s
+  q-finest = go (size s - 53) refl
+    where
+      reached : (z : ℕ) → size s - 53 ≡ suc z → 2 ^ 52 * 2 ^ k ≤ s
+      reached z e = subst (λ (x : ℕ). x ≤ s) (pow-add 2 52 k) (size-reaches s (52 + k) (omega arith))
+
+      go : (z : ℕ) → size s - 53 ≡ z → ((2 ^ 52 ≤ nearest q o) × (sq (2 ^ k) (2 ^ 52) ≤ n)) ⊎ (k ≡ 0)
+      go zero e = inr e
+      go (suc z) e =
+          let r = reached z e in
+          inl (le-trans (le-div-iff-mul-le (pow-pos k) .1 r) (nearest-ge q o), le-trans (mul-le-mul r r) (isqrt-law n .0))
+
+-- the root of n is c * 2 ^ k units
+pub rootOf-rounded : (n : ℕ) → (c : ℕ) × (k : ℕ) × (rootOf n ≡ units binary64 false c k) × Rounded n c k
+unfolding rootOf o q k s Ends
+rootOf-rounded n =
+    let b = sq (2 ^ k n) (2 * q n + 1) in
+    let e = ends (2 ^ k n) (4 * n) (q n) (q-low n) (q-high n) (o n) (leb→le (4 * n) b) (nleb→lt (4 * n) b) (eqb→eq (4 * n) b) in
+    (nearest (q n) (o n), k n, refl, record { low = e .0; high = e .1; digits = le-trans (nearest-le (q n) (o n)) (kept-lt 53 (s n)); finest = q-finest n })
+
+-- ---- every other number of 53 digits, y = p * 2 ^ j, is at least a step away, or √n is no less than c * 2 ^ k
+
+module _ (n c k p j : ℕ) (r : Rounded n c k) (p-lt : p < 2 ^ 53) where
+  abbrev y : ℕ
+  y = p * 2 ^ j
+
+  -- a multiple of 2 ^ k
+  split : k ≤ j → y ≡ p * 2 ^ (j - k) * 2 ^ k
+  split h = let e : j ≡ j - k + k = omega arith in ap (λ (z : ℕ). p * 2 ^ z) e ∙ ap (λ (z : ℕ). p * z) (pow-add 2 (j - k) k) ∙ sym (mul-assoc p (2 ^ (j - k)) (2 ^ k))
+
+  -- or below all that have 53 digits
+  under : j < k → y < 2 ^ 52 * 2 ^ k
+  under h = lt-of-lt-of-le (shl-lt 53 j p-lt) (le-trans (pow-mono {i = 53 + j} {j = 52 + k} (omega arith)) (le-of-eq (pow-add 2 52 k)))
+
+  step-up : (x : ℕ) → c * 2 ^ k < x * 2 ^ k → c * 2 ^ k + 2 ^ k ≤ x * 2 ^ k
+  step-up x h =
+      let l : c < x = lt-of-mul-lt-mul-right (2 ^ k) h in
+      let g : (c + 1) * 2 ^ k ≤ x * 2 ^ k = mul-le-mul-right (2 ^ k) (omega arith) in
+      omega arith
+
+  step-down : (x : ℕ) → x * 2 ^ k < c * 2 ^ k → x * 2 ^ k + 2 ^ k ≤ c * 2 ^ k
+  step-down x h =
+      let l : x < c = lt-of-mul-lt-mul-right (2 ^ k) h in
+      let g : (x + 1) * 2 ^ k ≤ c * 2 ^ k = mul-le-mul-right (2 ^ k) (omega arith) in
+      omega arith
+
+  pub above-step : c * 2 ^ k < y → c * 2 ^ k + 2 ^ k ≤ y
+  above-step h = either (decLe k j)
+    where
+      coarse : j < k → ((2 ^ 52 ≤ c) × (sq (2 ^ k) (2 ^ 52) ≤ n)) ⊎ (k ≡ 0) → ⊥
+      coarse l (inl f) = let g : 2 ^ 52 * 2 ^ k ≤ c * 2 ^ k = mul-le-mul-right (2 ^ k) (f .0) in let u = under l in omega arith
+      coarse l (inr e) = omega arith
+
+      either : Dec (k ≤ j) → c * 2 ^ k + 2 ^ k ≤ y
+      either (yes l) = let e = split l in le-trans (step-up (p * 2 ^ (j - k)) (lt-of-lt-of-le h (le-of-eq e))) (le-of-eq (sym e))
+      either (no g) = absurd (coarse (lt-of-not-le g) (r .finest))
+
+  pub below-step : y < c * 2 ^ k → (y + 2 ^ k ≤ c * 2 ^ k) ⊎ (c * 2 ^ k * (c * 2 ^ k) ≤ n)
+  below-step h = either (decLe k j)
+    where
+      more : j < k → 2 ^ 52 < c → y + 2 ^ k ≤ c * 2 ^ k
+      more l g = let f : (2 ^ 52 + 1) * 2 ^ k ≤ c * 2 ^ k = mul-le-mul-right (2 ^ k) (omega arith) in let u = under l in omega arith
+
+      least : c ≡ 2 ^ 52 → sq (2 ^ k) (2 ^ 52) ≤ n → c * 2 ^ k * (c * 2 ^ k) ≤ n
+      least e g = subst (λ (x : ℕ). x * 2 ^ k * (x * 2 ^ k) ≤ n) (sym e) g
+
+      by : j < k → 2 ^ 52 ≤ c → sq (2 ^ k) (2 ^ 52) ≤ n → Dec (c ≤ 2 ^ 52) → (y + 2 ^ k ≤ c * 2 ^ k) ⊎ (c * 2 ^ k * (c * 2 ^ k) ≤ n)
+      by l a b (yes g) = inr (least (omega arith) b)
+      by l a b (no g) = inl (more l (lt-of-not-le g))
+
+      coarse : j < k → ((2 ^ 52 ≤ c) × (sq (2 ^ k) (2 ^ 52) ≤ n)) ⊎ (k ≡ 0) → (y + 2 ^ k ≤ c * 2 ^ k) ⊎ (c * 2 ^ k * (c * 2 ^ k) ≤ n)
+      coarse l (inl f) = by l (f .0) (f .1) (decLe c (2 ^ 52))
+      coarse l (inr e) = absurd (omega arith)
+
+      either : Dec (k ≤ j) → (y + 2 ^ k ≤ c * 2 ^ k) ⊎ (c * 2 ^ k * (c * 2 ^ k) ≤ n)
+      either (yes l) = let e = split l in inl (subst (λ (x : ℕ). x + 2 ^ k ≤ c * 2 ^ k) (sym e) (step-down (p * 2 ^ (j - k)) (lt-of-le-of-lt (le-of-eq (sym e)) h)))
+      either (no g) = coarse (lt-of-not-le g) (r .finest)
+
+-- ---- so √n is on c * 2 ^ k's side of the number halfway to y
+
+module _ (n c k : ℕ) (r : Rounded n c k) where
+  abbrev R : ℕ
+  R = c * 2 ^ k
+
+  pub nearest-above : (p j : ℕ) → p < 2 ^ 53 → R < p * 2 ^ j → sq (2 ^ k) (2 * c + 1) ≤ (R + p * 2 ^ j) * (R + p * 2 ^ j)
+  nearest-above p j l h =
+      let g = above-step n c k p j r l h in
+      let f : (2 * c + 1) * 2 ^ k ≤ R + p * 2 ^ j = omega arith in
+      mul-le-mul f f
+
+  pub nearest-below : (p j : ℕ) → p < 2 ^ 53 → p * 2 ^ j < R → ((R + p * 2 ^ j) * (R + p * 2 ^ j) ≤ sq (2 ^ k) (2 * c - 1)) ⊎ ((R + p * 2 ^ j) * (R + p * 2 ^ j) < 4 * n)
+  nearest-below p j l h = ⊎-elim (λ g. inl (low-step g)) (λ g. inr (less g)) (below-step n c k p j r l h)
+    where
+      low-step : p * 2 ^ j + 2 ^ k ≤ R → (R + p * 2 ^ j) * (R + p * 2 ^ j) ≤ sq (2 ^ k) (2 * c - 1)
+      low-step g = let f : R + p * 2 ^ j ≤ (2 * c - 1) * 2 ^ k = halves c (2 ^ k) (p * 2 ^ j) g in mul-le-mul f f
+        where
+          halves : (c P z : ℕ) → z + P ≤ c * P → c * P + z ≤ (2 * c - 1) * P
+          halves zero P z g = omega arith
+          halves (suc c) P z g =
+              let a : suc c * P ≡ (c + 1) * P = ap (λ (x : ℕ). x * P) (omega arith) in
+              let b : (2 * suc c - 1) * P ≡ (2 * c + 1) * P = ap (λ (x : ℕ). x * P) (omega arith) in
+              omega arith
+
+      less : R * R ≤ n → (R + p * 2 ^ j) * (R + p * 2 ^ j) < 4 * n
+      less g =
+          let z = p * 2 ^ j in
+          let a : z * R ≤ R * R = mul-le-mul-right R (le-of-lt h) in
+          let b : z * z ≤ z * R = mul-le-mul-left z (le-of-lt h) in
+          let d : z * R < R * R = mul-lt-mul-of-pos-right h (omega arith) in
+          omega arith
+
+  -- a number of 53 digits that is at most √n is at most the root, and one that is at least √n is at least the root
+  pub root-ge : (p j : ℕ) → p < 2 ^ 53 → p * 2 ^ j * (p * 2 ^ j) ≤ n → p * 2 ^ j ≤ R
+  root-ge p j l h = either (decLe (p * 2 ^ j) R)
+    where
+      no-more : R < p * 2 ^ j → ⊥
+      no-more g =
+          let z = p * 2 ^ j in
+          let a = le-trans (r .high) (nearest-above p j l g) in
+          let b : z * R < z * z = mul-lt-mul-of-pos-left g (omega arith) in
+          let d : R * R ≤ z * R = mul-le-mul-right R (le-of-lt g) in
+          omega arith
+        where
+          mul-lt-mul-of-pos-left : {a b z : ℕ} → a < b → 0 < z → z * a < z * b
+          mul-lt-mul-of-pos-left {a} {b} {z} g p = let x : a * z < b * z = mul-lt-mul-of-pos-right g p in omega arith
+
+      either : Dec (p * 2 ^ j ≤ R) → p * 2 ^ j ≤ R
+      either (yes g) = g
+      either (no g) = absurd (no-more (lt-of-not-le g))
+
+  pub root-le : (p j : ℕ) → p < 2 ^ 53 → n ≤ p * 2 ^ j * (p * 2 ^ j) → R ≤ p * 2 ^ j
+  root-le p j l h = either (decLe R (p * 2 ^ j))
+    where
+      no-less : p * 2 ^ j < R → ⊥
+      no-less g =
+          let z = p * 2 ^ j in
+          let d : z * R < R * R = mul-lt-mul-of-pos-right g (omega arith) in
+          let b : z * z ≤ z * R = mul-le-mul-left z (le-of-lt g) in
+          ⊎-elim (λ a. let u = le-trans a (r .low) in omega arith) (λ a. omega arith) (nearest-below p j l g)
+
+      either : Dec (R ≤ p * 2 ^ j) → R ≤ p * 2 ^ j
+      either (yes g) = g
+      either (no g) = absurd (no-less (lt-of-not-le g))
