@@ -3,14 +3,14 @@ use mathlib.Core.Path.{_≡_, refl, sym, ap, _∙_, subst}
 use Prim.Native.Nat.{ℕ, zero, suc, _+_, _-_, _*_, _/_, _%_, _^_, _≤_, _<_}
 use native.Mathlib.Nat.{le-trans, le-of-eq, lt-of-lt-of-le, lt-of-le-of-lt, lt-irrefl, zero-lt-suc, mul-one, mul-assoc, mul-left-comm, mul-pos, div-one, pow-succ', div-div-eq-div-mul, mod-eq-of-lt, mod-lt, le-antisymm, lt-of-not-le, not-le-of-lt, le-of-suc-le-suc, mul-le-mul-right, mul-lt-mul-of-pos-right, lt-of-mul-lt-mul-right, le-of-mul-le-mul-right, div-lt-iff-lt-mul, pow-suc}
 use native.Mathlib.Omega.{arith}
-use mathlib.Core.Bool.{Bool, true, false, not, cond}
+use mathlib.Core.Bool.{Bool, true, false, not, cond, true≢false}
 use lib.IntN.{pos, negsuc}
 use lib.Dec.{T, leb, ltb, eqb, leb→le, nleb→lt, eqb→eq, T-not, not-T, eqb-refl, ltb→lt, nltb→le, lt→ltb}
 use lib.Pow.{pow-add, pow-pos, pow-mono, pow-lt, shl-lt}
 use lib.Count.{trailingZeros, under}
 use lib.Ieee.{Float, nan, inf, fin, Format, binary64, up, down, minus, size, odd, units, fits, isNan, ofFields, ofBits, toBits, nanBits, top, hid, ones}
 use lib.Ieee.Digits.{size-lt, size-le, size-reaches}
-use lib.Ieee.Bits.{ofBits-toBits, is-false, is-true, nanBits-above}
+use lib.Ieee.Bits.{is-false, is-true, nanBits-above, nanBits-is}
 use lib.Ieee.Positive.{positive, first-pos}
 
 -- ---- `odd` divides the closing zeros out
@@ -115,12 +115,23 @@ pub subnormal-is : (d : ℕ) → ofFields binary64 false 0 d ≡ odd 53 false d 
 unfolding ofFields
 subnormal-is d = refl
 
--- no pattern up to an infinity's is a NaN's
-pub no-nan : (n : ℕ) → n ≤ 2047 * 2 ^ 52 → T (not (nanBits binary64 n))
-no-nan n h = rw (nanBits-above binary64 n) (not-T (ltb (2047 * 2 ^ 52) (n % 2 ^ 63)) (λ (t : T (ltb (2047 * 2 ^ 52) (n % 2 ^ 63))). low (ltb→lt (2047 * 2 ^ 52) (n % 2 ^ 63) t)))
+-- ---- which patterns are a NaN's
+
+-- none whose rest, without the sign's bit, is up to an infinity's
+pub number-bits : (b : ℕ) → b % 2 ^ 63 ≤ 2047 * 2 ^ 52 → T (not (nanBits binary64 b))
+number-bits b h = rw (nanBits-above binary64 b) (not-T (ltb (2047 * 2 ^ 52) (b % 2 ^ 63)) (λ (t : T (ltb (2047 * 2 ^ 52) (b % 2 ^ 63))). not-le-of-lt (ltb→lt (2047 * 2 ^ 52) (b % 2 ^ 63) t) h))
+
+pub no-nan : (b : ℕ) → b ≤ 2047 * 2 ^ 52 → T (not (nanBits binary64 b))
+no-nan b h = number-bits b (omega arith)
+
+-- and all others
+pub nan-bits : (b : ℕ) → 2047 * 2 ^ 52 < b % 2 ^ 63 → ofBits binary64 b ≡ nan
+nan-bits b h = named (ofBits binary64 b) (sym (nanBits-is binary64 b) ∙ nanBits-above binary64 b ∙ is-true (ltb (2047 * 2 ^ 52) (b % 2 ^ 63)) (lt→ltb (2047 * 2 ^ 52) (b % 2 ^ 63) h))
   where
-    low : 2047 * 2 ^ 52 < n % 2 ^ 63 → ⊥
-    low k = omega arith
+    named : (x : Float) → isNan x ≡ true → x ≡ nan
+    named nan e = refl
+    named (inf s) e = unfold isNan in absurd (true≢false (sym e))
+    named (fin s m d) e = unfold isNan in absurd (true≢false (sym e))
 
 -- ---- patterns with the sign clear, below an infinity's
 

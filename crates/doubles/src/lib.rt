@@ -1,7 +1,28 @@
-// Magnitude, sign, order and finiteness of an f64, on every bit pattern.
+// Bits, magnitude, sign, order and finiteness of an f64, on every bit pattern.
 ghost use mathlib.Core.Path.{_≡_};
+ghost use lib.Ieee.{binary64, ofBits, toBits};
 ghost use lib.Ieee.Scale.{finite};
 ghost use Rattle.doubles.specs.Magnitude.{abs, max, min, negative, withinLimits};
+
+// The double of a bit pattern. Every NaN pattern is the one NaN.
+pub fn of_bits(b: u64) -> f64
+    ensures { λ r. ⌜ r ≡ ofBits binary64 b ⌝ }
+{
+    if 0x7ff0_0000_0000_0000 < b % 0x8000_0000_0000_0000 {
+        return 0.0 / 0.0;
+    }
+    f64::from_bits(b)
+}
+
+// The bit pattern of a double. A NaN's is 0x7ff8000000000000.
+pub fn to_bits(x: f64) -> u64
+    ensures { λ r. ⌜ r ≡ toBits binary64 x ⌝ }
+{
+    if x != x {
+        return 0x7ff8_0000_0000_0000;
+    }
+    f64::to_bits(x)
+}
 
 // |x|, a NaN staying one.
 pub fn abs(x: f64) -> f64

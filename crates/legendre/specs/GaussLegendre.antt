@@ -21,23 +21,29 @@ maxOrder = 16
 unfoldable pub entry : ℕ → Float
 entry j = ofBits binary64 (getD table j 0)
 
--- node and weight i, counted from 0, of the order n. Orders 1 to n - 1 take n * n - n entries before it.
+-- node i and weight i of the order n, counted from 0. The orders below n have n * n - n entries.
 unfoldable pub node : ℕ → ℕ → Float
 node n i = entry (n * n - n + i)
 
 unfoldable pub weight : ℕ → ℕ → Float
 weight n i = entry (n * n + i)
 
--- an array of 16 doubles: f 0, f 1, .., f (n - 1), and zeros after them
+-- an array of zeros, and an array of f 0, f 1, .., f (n - 1) with zeros after them
+unfoldable pub zeros : List Float
+zeros = replicate maxOrder 0·0
+
 unfoldable pub row : ℕ → (ℕ → Float) → List Float
-row zero f = replicate maxOrder 0·0
+row zero f = zeros
 row (suc n) f = set (row n f) n (f n)
 
--- the rule of the order n where there is no cause of refusal; under one, no nodes and no weights: zeros alone
+-- the rule of the order n where nothing is refused; under a refusal no nodes and no weights
 abbrev pub ruleUnless : Cause → ℕ → Rule
 ruleUnless None n = record { cause = None; count = n; nodes = row n (node n); weights = row n (weight n) }
-ruleUnless (Refused r) n = record { cause = Refused r; count = 0; nodes = row 0 (node n); weights = row 0 (weight n) }
+ruleUnless (Refused r) n = record { cause = Refused r; count = 0; nodes = zeros; weights = zeros }
 
--- an order outside 1 to 16 is refused
+-- document 01's domain of a rule's order
+abbrev pub orderCause : ℕ → Cause
+orderCause n = unless (leb 1 n && leb n maxOrder) OutsideDomain
+
 unfoldable pub gaussLegendre : ℕ → Rule
-gaussLegendre n = ruleUnless (unless (leb 1 n && leb n maxOrder) OutsideDomain) n
+gaussLegendre n = ruleUnless (orderCause n) n

@@ -1,19 +1,22 @@
-// Gauss-Legendre quadrature on [-1, 1], orders 1 to 16.
+// Gauss-Legendre quadrature on [-1, 1]: the nodes and weights of an order from 1 to 16.
 mod table;
 
-use refusals::{Cause, Refusal};
+use refusals::Cause;
+use refusals::Refusal;
 use table::TABLE;
-
 ghost use mathlib.Core.Path.{_≡_};
 ghost use Prim.Native.Nat.{_+_, _≤_};
 ghost use lib.ListN.{length};
 ghost use Rattle.legendre.specs.Table.{table};
-ghost use Rattle.legendre.specs.GaussLegendre.{maxOrder, entry, row, gaussLegendre};
+ghost use Rattle.legendre.specs.GaussLegendre.{maxOrder, entry, row, ruleUnless, gaussLegendre};
 
-const MAX_ORDER: usize = 16;
+pub const MAX_ORDER: usize = 16;
 
-// The nodes, ascending, and the weights of one order: count of each, and zeros after them. Under a
-// refusal the count is 0.
+// n nodes and n weights of each order n.
+const ENTRIES: usize = MAX_ORDER * (MAX_ORDER + 1);
+
+// count nodes, ascending, and as many weights, with zeros after them; or the cause of a refusal,
+// with the count 0.
 pub struct Rule {
     pub cause: Cause,
     pub count: usize,
@@ -21,8 +24,8 @@ pub struct Rule {
     pub weights: [f64; MAX_ORDER],
 }
 
-// The n entries of the table from the entry start on, and zeros after them.
-fn row(t: &[u64; 272], start: usize, n: usize) -> [f64; MAX_ORDER]
+// The n entries of the table from start on, with zeros after them.
+fn row(t: &[u64; ENTRIES], start: usize, n: usize) -> [f64; MAX_ORDER]
     requires { ⌜ (now t ≡ table) × (n ≤ maxOrder) × (start + n ≤ length table) ⌝ }
     ensures { λ r. ⌜ r ≡ row n (λ i. entry (start + i)) ⌝ }
 {
@@ -36,7 +39,7 @@ fn row(t: &[u64; 272], start: usize, n: usize) -> [f64; MAX_ORDER]
 }
 
 fn refused() -> Rule
-    ensures { λ r. ⌜ r ≡ gaussLegendre 0 ⌝ }
+    ensures { λ r. ⌜ r ≡ ruleUnless (Cause.Refused Refusal.OutsideDomain) 0 ⌝ }
 {
     Rule {
         cause: Cause::Refused(Refusal::OutsideDomain),
@@ -46,7 +49,7 @@ fn refused() -> Rule
     }
 }
 
-// The rule of an order; outside 1 to 16 refusal 14.
+// The rule of an order. Outside 1 to 16 it is refused by 14.
 pub fn gauss_legendre(order: u32) -> Rule
     ensures { λ r. ⌜ r ≡ gaussLegendre order ⌝ }
 {
@@ -57,7 +60,7 @@ pub fn gauss_legendre(order: u32) -> Rule
     if MAX_ORDER < n {
         return refused();
     }
-    // A constant array is built anew at each use: here once, for both halves.
+    // A constant array is built anew at each use, so it is used once.
     let t = TABLE;
     let nodes = row(&t, n * n - n, n);
     let weights = row(&t, n * n, n);

@@ -1,7 +1,9 @@
 // The nodes and weights of `gauss_legendre` for orders 1 to 16 as bit patterns of doubles, printed once from the
 // reference build: order by order the nodes, ascending, then the weights. So order n has its nodes from n * n - n on
 // and its weights from n * n on.
-pub const TABLE: [u64; 272] = [
+use super::ENTRIES;
+
+pub const TABLE: [u64; ENTRIES] = [
     // order 1, nodes
     0x0000_0000_0000_0000,
     // order 1, weights

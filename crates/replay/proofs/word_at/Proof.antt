@@ -1,0 +1,92 @@
+-- `replay::word_at` meets its contract. Assumes nothing.
+use mathlib.Core.Path.{_≡_, sym, ap, _∙_, subst}
+use Prim.Native.Nat.{ℕ, _+_, _-_, _*_, _^_, _≤_, _<_}
+use native.Mathlib.Omega.{arith}
+use borrow.Author.Needs.{needs}
+use borrow.Author.Tests.{le-leb, lt-leb}
+use lib.ListN.{length}
+use Rattle.replay.specs.Words.{word, wordAt}
+use Rattle.replay.proofs.Words.{more, bad, done, bound, fits, past-end, opens}
+use Rattle.replay.proofs.word_at.Statement.{statement}
+use Rattle.replay.proofs.word_at.Tie as tie
+
+abbrev Inv-loop : tie.InvT-loop
+Inv-loop s k from v₀ i₀ v i = ((i ≤ 16) × (17 * k + 17 ≤ length s) × (v < 2 ^ (4 * i))) × (wordAt s k ≡ word s (17 * k + i) (16 - i) v)
+
+abbrev μ-loop : tie.MeasureT-loop
+μ-loop s k from v₀ i₀ v i = 16 - i
+
+returns : tie.Need-returns Inv-loop μ-loop
+returns c = past-end (c .before .before .args .s .now) (c .before .before .args .k) (c .if1 .taken)
+
+mul-from : tie.Need-mul-from Inv-loop μ-loop
+mul-from c = omega arith
+
+loop-holds : tie.Need-loop-holds Inv-loop μ-loop
+loop-holds c = ((omega arith, omega arith, omega arith), opens (c .before .before .args .s .now) (c .before .before .args .k) (c .if1 .left))
+
+add-digit : tie.Need-add-digit Inv-loop μ-loop
+add-digit c = omega arith
+
+shared-slice-read-digit : tie.Need-shared-slice-read-digit Inv-loop μ-loop
+shared-slice-read-digit c = omega arith
+
+digit-requires : tie.Need-digit-requires Inv-loop μ-loop
+digit-requires c κs = tt
+
+returns-2 : tie.Need-returns-2 Inv-loop μ-loop
+returns-2 c =
+    let l = c .before .before .before .before .loop in
+    let s = c .before .before .before .before .before .before .before .args .s .now in
+    let k = c .before .before .before .before .before .before .before .args .k in
+    sym (l .inv .1 ∙ bad s (17 * k + l .i) (l .v) (c .before .digit .result) (c .before .digit .ensures) (16 - l .i) (omega (arith, c .before .before .before .loop-test .taken)) (c .if2 .taken))
+
+mul-v : tie.Need-mul-v Inv-loop μ-loop
+mul-v c = omega (arith, fits (c .before .before .before .before .loop .v) (c .before .digit .result) (c .before .before .before .before .loop .i) (c .before .before .before .before .loop .inv .0 .2) (c .before .before .before .loop-test .taken) (c .if2 .left))
+
+add-v : tie.Need-add-v Inv-loop μ-loop
+add-v c = omega (arith, fits (c .before .before .before .before .loop .v) (c .before .digit .result) (c .before .before .before .before .loop .i) (c .before .before .before .before .loop .inv .0 .2) (c .before .before .before .loop-test .taken) (c .if2 .left))
+
+add-i : tie.Need-add-i Inv-loop μ-loop
+add-i c = omega arith
+
+loop-less : tie.Need-loop-less Inv-loop μ-loop
+loop-less c = omega arith
+
+loop-again : tie.Need-loop-again Inv-loop μ-loop
+loop-again c =
+    let l = c .before .before .before .before .loop in
+    let s = c .before .before .before .before .before .before .before .args .s .now in
+    let k = c .before .before .before .before .before .before .before .args .k in
+    let t = c .before .before .before .loop-test .taken in
+    (
+      (omega arith, l .inv .0 .1, bound (l .v) (c .before .digit .result) (l .i) (l .inv .0 .2) (c .if2 .left)),
+      l .inv .1 ∙ more s (17 * k + l .i) (l .v) (c .before .digit .result) (c .before .digit .ensures) (16 - l .i) (16 - (l .i + 1)) (17 * k + (l .i + 1)) (omega arith) (omega arith) (c .if2 .left),
+    )
+
+returns-3 : tie.Need-returns-3 Inv-loop μ-loop
+returns-3 c =
+    let l = c .before .loop in
+    let s = c .before .before .before .before .args .s .now in
+    let k = c .before .before .before .before .args .k in
+    sym (l .inv .1 ∙ done s (17 * k + l .i) (16 - l .i) (l .v) (omega arith))
+
+pub word-at-spec : {M : Type 1} → statement M
+word-at-spec =
+    tie.close
+    (tie.spec
+    Inv-loop
+    μ-loop
+    returns
+    mul-from
+    loop-holds
+    add-digit
+    shared-slice-read-digit
+    digit-requires
+    returns-2
+    mul-v
+    add-v
+    add-i
+    loop-less
+    loop-again
+    returns-3)

@@ -1,0 +1,2 @@
+-- Lists of answers as text.
+pub mod Words
