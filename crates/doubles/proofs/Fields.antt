@@ -1,17 +1,16 @@
 -- A double from its bit pattern: what the sign, the exponent's field and the digits say of a value that is finite and above zero, and how `odd` writes it. Assumes nothing.
 use mathlib.Core.Path.{_≡_, refl, sym, ap, _∙_, subst}
 use Prim.Native.Nat.{ℕ, zero, suc, _+_, _-_, _*_, _/_, _%_, _^_, _≤_, _<_}
-use native.Mathlib.Nat.{le-trans, le-of-eq, lt-of-lt-of-le, lt-of-le-of-lt, lt-irrefl, zero-lt-suc, mul-one, mul-assoc, mul-left-comm, mul-pos, div-one, pow-succ', div-div-eq-div-mul, mod-eq-of-lt, mod-lt, le-antisymm, lt-of-not-le, not-le-of-lt, le-of-suc-le-suc, mul-le-mul-right, mul-lt-mul-of-pos-right, lt-of-mul-lt-mul-right, le-of-mul-le-mul-right, div-lt-iff-lt-mul, pow-suc}
+use native.Mathlib.Nat.{lt-of-lt-of-le, lt-irrefl, zero-lt-suc, mul-one, mul-left-comm, div-one, pow-succ', div-div-eq-div-mul, mod-eq-of-lt, le-antisymm, lt-of-not-le, not-le-of-lt, div-lt-iff-lt-mul, pow-suc}
 use native.Mathlib.Omega.{arith}
 use mathlib.Core.Bool.{Bool, true, false, not, cond, true≢false}
-use lib.IntN.{pos, negsuc}
-use lib.Dec.{T, leb, ltb, eqb, leb→le, nleb→lt, eqb→eq, T-not, not-T, eqb-refl, ltb→lt, nltb→le, lt→ltb}
-use lib.Pow.{pow-add, pow-pos, pow-mono, pow-lt, shl-lt}
+use lib.Dec.{T, leb, ltb, eqb, leb→le, nleb→lt, eqb→eq, not-T, ltb→lt, nltb→le, lt→ltb}
+use lib.Pow.{pow-mono, shl-lt}
 use lib.Count.{trailingZeros, under}
-use lib.Ieee.{Float, nan, inf, fin, Format, binary64, up, down, minus, size, odd, units, fits, isNan, ofFields, ofBits, toBits, nanBits, top, hid, ones}
-use lib.Ieee.Digits.{size-lt, size-le, size-reaches}
+use lib.Ieee.{Float, nan, inf, fin, binary64, minus, size, odd, units, isNan, ofFields, ofBits, nanBits}
+use lib.Ieee.Digits.{size-lt, size-le}
 use lib.Ieee.Bits.{is-false, is-true, nanBits-above, nanBits-is}
-use lib.Ieee.Positive.{positive, first-pos}
+use lib.Ieee.Positive.{positive}
 
 -- ---- `odd` divides the closing zeros out
 whole : (n : ℕ) → n / 1 * 1 ≡ n

@@ -1,14 +1,13 @@
 -- Finite values that are not negative, zero included, each as a fraction `num` / `den`: `le` is the fractions' order, and ⊕ ⊗ ⊘ keep it, in either format.
 -- `lib.Ieee.Positive` has the same above zero, for the product and the difference. Assumes nothing.
-use mathlib.Core.Path.{_≡_, refl, sym, ap, _∙_, subst}
+use mathlib.Core.Path.{_≡_, refl}
 use mathlib.Core.Logic.{_⊎_, inl, inr}
 use Prim.Native.Nat.{ℕ, zero, suc, _+_, _-_, _*_, _/_, _%_, _^_, _≤_, _<_, compare}
-use native.Mathlib.Nat.{le-trans, le-of-eq, le-of-lt, le-refl, add-mul, mul-comm, mul-assoc, mul-left-comm, mul-right-comm, mul-le-mul-right, mul-le-mul, mul-pos, mul-mul-mul-comm, sub-le, add-le-add}
+use native.Mathlib.Nat.{le-trans, le-of-eq, le-of-lt, add-mul, mul-comm, mul-assoc, mul-left-comm, mul-le-mul-right, mul-le-mul, mul-pos, mul-mul-mul-comm, add-le-add}
 use native.Mathlib.Omega.{arith}
 use mathlib.Core.Bool.{Bool, true, false, not, _&&_, _||_, cond, true≢false}
-use lib.IntN.{ℤ, pos}
-use lib.Dec.{T, ltb, eqb, eqb→eq, ltb→lt, nltb→le}
-use lib.Ieee.{Float, nan, inf, fin, Format, prec, emax, low, up, down, nearest, size, odd, units, round, sum, add, mul, sub, div, neg, lt, eq, le}
+use lib.Dec.{T, ltb, eqb, eqb→eq, ltb→lt}
+use lib.Ieee.{Float, nan, inf, fin, Format, prec, emax, low, up, down, nearest, size, odd, units, round, add, mul, div, lt, le}
 use lib.Ieee.Fits.{round-is, and-l}
 use lib.Ieee.Exact.{HasValue, odd-sign}
 use lib.Ieee.Order.{le-of-values, round-mono}

@@ -1,16 +1,16 @@
 -- Zeros, signs and NaNs by comparisons, and the sign of a rounded fraction. Assumes nothing.
 use mathlib.Core.Path.{_≡_, refl, sym, ap, _∙_, subst}
-use Prim.Native.Nat.{ℕ, zero, suc, _+_, _-_, _*_, _/_, _%_, _^_, _≤_, _<_, compare}
+use Prim.Native.Nat.{ℕ, zero, suc, _+_, _-_, _*_, _/_, _%_, _^_, _<_, compare}
 use native.Mathlib.Nat.{lt-irrefl, mul-one, one-mul, mul-pos, zero-lt-suc, zero-mul, pow-succ', le-of-lt, le-trans}
 use native.Mathlib.Omega.{arith}
-use mathlib.Core.Bool.{Bool, true, false, not, _&&_, _||_, cond, Bool·beq, true≢false, false≢true}
+use mathlib.Core.Bool.{Bool, true, false, not, _&&_, _||_, cond, Bool·beq, false≢true}
 use lib.IntN.{ℤ, pos, negsuc}
 use lib.Dec.{T, not-T, eqb-refl, ltb, eqb, eqb→eq, ltb→lt, le→leb, lit≤}
 use lib.Pow.{pow-pos}
 use lib.Ieee.{Float, nan, inf, fin, Format, binary64, prec, emax, low, up, down, minus, size, nearest, odd, units, round, fits, level, ofBits, ofInt, inFloat, neg, lt, eq, ne, isNan}
 use lib.Ieee.Fits.{up-pos, and-l, round-is}
 use lib.Ieee.Bits.{is-false, is-true}
-use lib.Ieee.Compare.{differs-from-itself, nan-differs}
+use lib.Ieee.Compare.{differs-from-itself}
 use lib.Ieee.Positive.{positive}
 use Rattle.doubles.specs.Constants.{0·0}
 use Rattle.doubles.proofs.Exponent.{minus-lt}

@@ -1,17 +1,17 @@
 -- Interval arithmetic on finite values that are not negative. `Within lo hi x` says that x lies from lo to hi. Each operation takes intervals to the interval of the operation's own results at the ends.
 -- With closed ends antt computes the new ends, and the one side condition, that the new upper end is finite, is `tt`. Nothing is rounded by hand, and no error is estimated. Assumes nothing.
-use mathlib.Core.Path.{_≡_, refl, sym, ap, _∙_, subst}
-use Prim.Native.Nat.{ℕ, suc, _+_, _-_, _*_, _≤_, _<_, zero-le, suc-le-suc}
-use native.Mathlib.Nat.{le-refl, le-trans, le-of-eq, le-of-lt, sub-le, mul-pos, mul-assoc, mul-comm, mul-left-comm, mul-right-comm, mul-le-mul-right, zero-mul}
+use mathlib.Core.Path.{_≡_, refl, sym, ap, _∙_}
+use Prim.Native.Nat.{ℕ, _+_, _-_, _*_, _≤_, _<_, zero-le, suc-le-suc}
+use native.Mathlib.Nat.{le-refl, le-trans, le-of-eq, le-of-lt, sub-le, mul-pos, mul-assoc, mul-comm, mul-left-comm, mul-le-mul-right, zero-mul}
 use native.Mathlib.Omega.{arith}
 use mathlib.Core.Bool.{Bool, true, false, not, _&&_, cond}
 use lib.IntN.{ℤ, pos}
 use lib.Dec.{T, leb, eqb, ltb, leb→le, nleb→lt, ltb→lt, nltb→le, lt→ltb, T-not, not-T}
-use lib.Ieee.{Float, nan, inf, fin, Format, up, down, round, fits, sum, add, sub, neg, mul, div, le, unlike}
+use lib.Ieee.{Float, nan, inf, fin, Format, up, down, round, fits, sum, add, sub, mul, div, le, unlike}
 use lib.Ieee.Order.{round-mono}
 use lib.Ieee.Positive.{num, den, den-pos, positive, first-pos}
 use Rattle.doubles.specs.Magnitude.{abs, nonneg}
-use Rattle.doubles.proofs.Nonneg.{nonneg-of-positive, le→cross, cross→le, le-trans-nonneg, round-nonneg, add-is, mul-is, div-is, add-mono, mul-mono, div-mono, abs-round, num-pos}
+use Rattle.doubles.proofs.Nonneg.{le→cross, cross→le, le-trans-nonneg, round-nonneg, add-is, mul-is, div-is, add-mono, mul-mono, div-mono, abs-round, num-pos}
 use Rattle.doubles.proofs.Value.{round-own}
 
 pub record Within (lo hi x : Float) : Type 0 where

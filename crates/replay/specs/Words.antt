@@ -1,5 +1,5 @@
 -- A list of numbers as text: 16 hexadecimal digits each, and one byte after each. Definitions only.
-use mathlib.Core.Bool.{Bool, true, false, cond}
+use mathlib.Core.Bool.{cond}
 use mathlib.Core.List.{List}
 use Prim.Native.Nat.{ℕ, zero, suc, _+_, _-_, _*_, _/_}
 use lib.Dec.{leb, ltb}

@@ -1,13 +1,13 @@
 -- The root of a number from a² to b², for doubles a and b, lies from a to b; so the root of a number from 1/4 to 4 lies from 1/2 to 2. Assumes nothing.
-use mathlib.Core.Path.{_≡_, refl, sym, ap, _∙_, subst}
+use mathlib.Core.Path.{_≡_, ap}
 use mathlib.Core.Bool.{true, false}
-use Prim.Native.Nat.{ℕ, _+_, _*_, _/_, _^_, _≤_, _<_}
-use native.Mathlib.Nat.{le-trans, le-of-eq, lt-of-le-of-lt, mul-pos, mul-le-mul-right, le-of-mul-le-mul-right, le-div-iff-mul-le, div-le-of-le-mul}
+use Prim.Native.Nat.{ℕ, _*_, _/_, _^_, _≤_, _<_}
+use native.Mathlib.Nat.{lt-of-le-of-lt, mul-pos, mul-le-mul-right, le-of-mul-le-mul-right, le-div-iff-mul-le, div-le-of-le-mul}
 use native.Mathlib.Omega.{arith}
-use lib.Dec.{T, lit≤}
+use lib.Dec.{T}
 use lib.IntN.{pos, negsuc}
 use lib.Pow.{pow-pos}
-use lib.Ieee.{Float, nan, inf, fin, binary64, up, down, units, fits, le}
+use lib.Ieee.{Float, nan, inf, fin, binary64, up, down, units, fits}
 use lib.Ieee.Exact.{HasValue, units-val}
 use lib.Ieee.Fits.{down-pos}
 use lib.Ieee.Order.{le-of-values}
@@ -17,7 +17,7 @@ use Rattle.doubles.proofs.Nonneg.{le→cross, nonneg-of-value}
 use Rattle.doubles.proofs.Value.{Units, units-of}
 use Rattle.doubles.proofs.Within.{Within}
 use Rattle.roots.specs.Root.{rootOf, Root}
-use Rattle.roots.specs.Rounding.{Rounded, rootOf-rounded, root-ge, root-le}
+use Rattle.roots.specs.Rounding.{rootOf-rounded, root-ge, root-le}
 
 -- a² against x = y / d, in units: A is a's, and T is 2 ^ 1074
 low-units : (y d n m A T : ℕ) → 0 < d → 0 < m → n * T ≡ A * m → n * n * d ≤ y * (m * m) → A * A ≤ y * (T * T) / d

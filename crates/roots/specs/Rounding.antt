@@ -8,7 +8,7 @@ use native.Mathlib.Decide.{decLe}
 use mathlib.Core.Bool.{false, not}
 use lib.Dec.{T, isLe, isEq, leb→le, nleb→lt, eqb→eq}
 use lib.Pow.{pow-pos, pow-add, pow-mono, shl-lt}
-use lib.Ieee.{Float, binary64, size, nearest, units}
+use lib.Ieee.{binary64, size, nearest, units}
 use lib.Ieee.Digits.{size-reaches}
 use lib.Ieee.Fits.{kept-lt, nearest-le}
 use lib.Ieee.Nearest.{nearest-ge}

@@ -1,5 +1,4 @@
 -- `doubles::is_finite` meets its contract. Assumes nothing.
-use mathlib.Core.Path.{ap, _∙_}
 use borrow.Author.Needs.{needs}
 use Rattle.doubles.proofs.Magnitude.{finite-test}
 use Rattle.doubles.proofs.is_finite.Statement.{statement}

@@ -1,5 +1,5 @@
 -- `doubles::is_sign_negative` meets its contract. Assumes nothing.
-use mathlib.Core.Path.{sym, ap, _∙_}
+use mathlib.Core.Path.{sym, ap}
 use Rattle.doubles.specs.Magnitude.{negative}
 use Rattle.doubles.proofs.Signs.{true→T, is-nan, is-number}
 use Rattle.doubles.proofs.SignBit.{sign-bit}

@@ -1,5 +1,4 @@
 -- `doubles::within_limits` meets its contract. Assumes nothing.
-use mathlib.Core.Path.{ap, _∙_}
 use borrow.Author.Needs.{needs}
 use Rattle.doubles.proofs.Magnitude.{limit-test}
 use Rattle.doubles.proofs.within_limits.Statement.{statement}

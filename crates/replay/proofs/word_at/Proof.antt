@@ -1,9 +1,7 @@
 -- `replay::word_at` meets its contract. Assumes nothing.
-use mathlib.Core.Path.{_≡_, sym, ap, _∙_, subst}
-use Prim.Native.Nat.{ℕ, _+_, _-_, _*_, _^_, _≤_, _<_}
+use mathlib.Core.Path.{_≡_, sym, _∙_}
+use Prim.Native.Nat.{_+_, _-_, _*_, _^_, _≤_, _<_}
 use native.Mathlib.Omega.{arith}
-use borrow.Author.Needs.{needs}
-use borrow.Author.Tests.{le-leb, lt-leb}
 use lib.ListN.{length}
 use Rattle.replay.specs.Words.{word, wordAt}
 use Rattle.replay.proofs.Words.{more, bad, done, bound, fits, past-end, opens}
@@ -58,8 +56,7 @@ loop-again c =
     let l = c .before .before .before .before .loop in
     let s = c .before .before .before .before .before .before .before .args .s .now in
     let k = c .before .before .before .before .before .before .before .args .k in
-    let t = c .before .before .before .loop-test .taken in
-    (
+    let t = c .before .before .before .loop-test .taken in (
       (omega arith, l .inv .0 .1, bound (l .v) (c .before .digit .result) (l .i) (l .inv .0 .2) (c .if2 .left)),
       l .inv .1 ∙ more s (17 * k + l .i) (l .v) (c .before .digit .result) (c .before .digit .ensures) (16 - l .i) (16 - (l .i + 1)) (17 * k + (l .i + 1)) (omega arith) (omega arith) (c .if2 .left),
     )

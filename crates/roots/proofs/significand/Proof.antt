@@ -1,7 +1,7 @@
 -- `roots::significand` meets its contract: the digits are in `Scale.antt`. Assumes nothing.
 use borrow.Author.Needs.{needs}
-use mathlib.Core.Path.{sym, subst}
-use Prim.Native.Nat.{ℕ, _+_, _*_, _/_, _%_, _^_, _≤_, _<_}
+use mathlib.Core.Path.{subst}
+use Prim.Native.Nat.{ℕ, _/_, _^_}
 use native.Mathlib.Omega.{arith}
 use Rattle.roots.specs.NearestWhole.{Near, scaled}
 use Rattle.roots.proofs.Scale.{n-range, cut-range, scaled-of, code-scaled, shift-lt, digits-fit}

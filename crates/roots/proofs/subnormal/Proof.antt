@@ -4,7 +4,7 @@ use native.Mathlib.Omega.{arith}
 use Rattle.doubles.proofs.Fields.{no-nan}
 use native.Mathlib.Nat.{le-of-lt}
 use lib.Count.{leading-le}
-use Rattle.roots.proofs.Scale.{zeros-ge, shift, pattern-fits, subnormal-lt, subnormal-root}
+use Rattle.roots.proofs.Scale.{zeros-ge, pattern-fits, subnormal-lt, subnormal-root}
 use Rattle.roots.proofs.subnormal.Statement.{statement}
 use Rattle.roots.proofs.subnormal.Tie as tie
 

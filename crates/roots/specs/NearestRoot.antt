@@ -1,0 +1,22 @@
+-- What it is for r to be the double nearest √x: strictly nearer than every other double, so that there is never a tie. `RootIsNearest` shows it of the root. Definitions only.
+use Prim.Native.Nat.{ℕ, _+_, _*_, _<_}
+use lib.Dec.{T}
+use lib.Ieee.{Float, binary64, fits, lt}
+use lib.Ieee.Positive.{num, den}
+use Rattle.doubles.specs.Magnitude.{nonneg}
+
+-- The number halfway between r and y is (r + y) / 2, so √x lies below it exactly where 4 x is below (r + y)².
+-- With each number as the fraction `num` / `den`, both times the denominators:
+unfoldable pub fourTimes : Float → Float → Float → ℕ
+fourTimes x r y = 4 * num x * (den r * den y * (den r * den y))
+
+unfoldable pub sumSquared : Float → Float → Float → ℕ
+sumSquared x r y = let s = num r * den y + num y * den r in s * s * den x
+
+pub record NearestRoot (x r : Float) : Type 0 where
+  -- r is a double, finite and not negative
+  pub double : T (fits binary64 r)
+  pub finite : T (nonneg r)
+  -- √x is below halfway to every double y above r, and above halfway to every double y below r
+  pub above : (y : Float) → T (fits binary64 y) → T (nonneg y) → T (lt r y) → fourTimes x r y < sumSquared x r y
+  pub below : (y : Float) → T (fits binary64 y) → T (nonneg y) → T (lt y r) → sumSquared x r y < fourTimes x r y
