@@ -50,10 +50,48 @@ def roots():
     return [("sqrt", [b]) for b in asked]
 
 
-LISTS = {"roots": roots}
+def log_uniform(r, low, high):
+    """A number above zero whose logarithm is spread evenly."""
+    return bits(2.0 ** r.uniform(low, high))
 
 
-def answers(reference, requests):
+# what the special cases of ln, atan and atan2 turn on, and magnitudes far from each other
+CORNERS = [0, 1, 1 << 52, INFINITY - 1, INFINITY, 0x7FF8000000000000] + [bits(x) for x in (1e-300, 1e-8, 0.5, 0.75, 1.0, 1.5, 2.0, 4.0, 1e8, 1e154, 1e300)]
+CORNERS += near(bits(1.0))[::2] + near(bits(0.75))[::2]
+SIGNED = CORNERS + [TOP | b for b in CORNERS if b != 0x7FF8000000000000]
+
+
+def carlson():
+    """R_C, ln, atan and atan2: the call's number, two arguments (the second 0 where there is none), the answer."""
+    r = random.Random(1995)
+    rc = [(x, y) for x in SIGNED for y in SIGNED]
+    rc += [(log_uniform(r, -40, 40), log_uniform(r, -40, 40)) for _ in range(400)]
+    rc += [(log_uniform(r, -1022, 1023), log_uniform(r, -1022, 1023)) for _ in range(200)]
+    rc += [(x, x + r.randrange(-4, 5)) for x in (log_uniform(r, -20, 20) for _ in range(150))]
+    rc += [(log_uniform(r, -40, 40), TOP | log_uniform(r, -40, 40)) for _ in range(200)]
+    # the limit of rounds
+    rc += [(0, b) for b in range(1, 40)] + [(bits(x), bits(y)) for x, y in ((1.0, 1e308), (1e308, 1e-308), (1e300, 1e308), (0.0, 1e-300), (1e-308, 1e308), (1e308, 1e308))]
+    ln = list(SPECIAL)
+    for k in range(-1073, 1024):
+        border = bits(0.75 * 2.0 ** k)
+        ln += near(border) if k % 8 == 0 or abs(k) < 60 else [border]
+    ln += [r.getrandbits(r.randrange(1, 53)) for _ in range(150)] + [log_uniform(r, -1022, 1023) for _ in range(150)] + [log_uniform(r, -2, 2) for _ in range(150)]
+    atan = list(SPECIAL) + SIGNED
+    for b in range(200):
+        atan += [bits(1.0) + b - 100, TOP | (bits(1.0) + b - 100)]
+    atan += [log_uniform(r, -60, 60) | TOP * r.randrange(2) for _ in range(1200)] + [log_uniform(r, -1022, 1023) | TOP * r.randrange(2) for _ in range(400)]
+    atan2 = [(s, c) for s in SIGNED for c in SIGNED]
+    atan2 += [(log_uniform(r, -20, 20) | TOP * r.randrange(2), log_uniform(r, -20, 20) | TOP * r.randrange(2)) for _ in range(800)]
+    return (
+        [("rc", a) for a in rc] + [("ln", (a,)) for a in ln] + [("atan", (a,)) for a in atan] + [("atan2", a) for a in atan2])
+
+
+LISTS = {"roots": roots, "carlson": carlson}
+# for a list of several calls: each call's number, and how many arguments a line has
+CALLS = {"carlson": ({"rc": 1, "ln": 2, "atan": 3, "atan2": 4}, 2)}
+
+
+def answers(reference, requests, calls, width):
     text = "".join(" ".join([name] + ["%016x" % b for b in args]) + "\n" for name, args in requests)
     out = subprocess.run([reference], input=text, capture_output=True, text=True, check=True).stdout.splitlines()
     assert len(out) == len(requests)
@@ -63,9 +101,11 @@ def answers(reference, requests):
             words = ["%016x" % (INFINITY + int(words[0]))]
         else:
             assert kind == "ok", line
-        yield ["%016x" % b for b in args] + [w if w != "nan" else "7ff8000000000000" for w in words]
+        head = ["%016x" % calls[name]] if calls else []
+        pad = ["%016x" % 0] * (width - len(args)) if calls else []
+        yield head + ["%016x" % b for b in args] + pad + [w if w != "nan" else "7ff8000000000000" for w in words]
 
 
 if __name__ == "__main__":
-    for words in answers(sys.argv[1], LISTS[sys.argv[2]]()):
+    for words in answers(sys.argv[1], LISTS[sys.argv[2]](), *CALLS.get(sys.argv[2], ({}, 0))):
         print(" ".join(words))
