@@ -86,6 +86,119 @@ def carlson():
         [("rc", a) for a in rc] + [("ln", (a,)) for a in ln] + [("atan", (a,)) for a in atan] + [("atan2", a) for a in atan2])
 
 
+# ---- meshes: a list of vertices, a list of faces, the length of work
+
+TETRAHEDRON = ([(0, 0, 0), (1, 0, 0), (0, 1, 0), (0, 0, 1)], [(0, 2, 1), (0, 1, 3), (0, 3, 2), (1, 2, 3)])
+OCTAHEDRON = ([(1, 0, 0), (-1, 0, 0), (0, 1, 0), (0, -1, 0), (0, 0, 1), (0, 0, -1)],
+              [(0, 2, 4), (2, 1, 4), (1, 3, 4), (3, 0, 4), (2, 0, 5), (1, 2, 5), (3, 1, 5), (0, 3, 5)])
+CUBE = ([(x, y, z) for x in (0, 1) for y in (0, 1) for z in (0, 1)],
+        [(0, 1, 3), (0, 3, 2), (4, 6, 7), (4, 7, 5), (0, 4, 5), (0, 5, 1), (2, 3, 7), (2, 7, 6), (0, 2, 6), (0, 6, 4), (1, 5, 7), (1, 7, 3)])
+
+
+def closed_mesh(r):
+    """A closed mesh: a face is split at its middle some times, the vertices are moved, scaled and numbered anew."""
+    verts, faces = (list(a) for a in r.choice((TETRAHEDRON, OCTAHEDRON, CUBE)))
+    for _ in range(r.randrange(6)):
+        a, b, c = faces.pop(r.randrange(len(faces)))
+        n = len(verts)
+        verts.append(tuple((verts[a][i] + verts[b][i] + verts[c][i]) / 3 for i in range(3)))
+        faces += [(a, b, n), (b, c, n), (c, a, n)]
+    scale, move = 10.0 ** r.randrange(-6, 8), [r.choice((0.0, 1.0, 0.1, -3e3)) for _ in range(3)]
+    shake = r.choice((0.0, 0.0, 1e-3, 0.1))
+    verts = [tuple(scale * (v[i] + shake * r.uniform(-1, 1)) + move[i] for i in range(3)) for v in verts]
+    # vertices that no face uses
+    for _ in range(r.choice((0, 0, 1, 3))):
+        verts.append(tuple(r.uniform(-9, 9) for _ in range(3)))
+    order = list(range(len(verts)))
+    r.shuffle(order)
+    place = {old: new for new, old in enumerate(order)}
+    faces = [tuple(place[i] for i in f) for f in faces]
+    faces = [f[k:] + f[:k] for f in faces for k in [r.randrange(3)]]
+    r.shuffle(faces)
+    return [verts[i] for i in order], faces
+
+
+def damaged(r, verts, faces):
+    """The same mesh with one fault, or none."""
+    verts, faces = [list(v) for v in verts], [list(f) for f in faces]
+    k, i = r.randrange(len(faces)), r.randrange(len(verts))
+    kind = r.randrange(15)
+    if kind == 1:
+        del faces[k]
+    elif kind == 2:
+        faces[k][1:] = faces[k][:0:-1]
+    elif kind == 3:
+        faces.insert(r.randrange(len(faces)), list(faces[k]))
+    elif kind == 4:
+        faces = [[a, c, b] for a, b, c in faces]
+    elif kind == 5:
+        faces[k][r.randrange(3)] = r.randrange(len(verts))
+    elif kind == 6:
+        faces[k][r.randrange(3)] = r.choice((len(verts), len(verts) + 1, 2**32 - 1))
+    elif kind == 7:
+        verts[i] = list(verts[r.randrange(len(verts))])
+    elif kind == 8:
+        verts = [[v[0], v[1], verts[0][2]] for v in verts]
+    elif kind == 9:
+        verts[i][r.randrange(3)] = r.choice((float("nan"), float("inf"), -float("inf"), 1e9, -1e9, 1000000000.0000001, -1000000000.0000001))
+    elif kind == 10:
+        faces.append([k % len(verts)] * 2 + [i])
+    elif kind == 11:
+        n = len(verts)  # a copy beside it that shares an edge: four faces meet there
+        a, b = faces[k][:2]
+        verts += [[v[0] + 100.0, v[1], v[2]] for v in verts]
+        faces += [[j if j in (a, b) else j + n for j in f] for f in faces]
+    elif kind == 12:
+        faces = faces[:r.randrange(2)]
+    elif kind == 13:
+        faces += [list(faces[k]), [faces[k][0], faces[k][2], faces[k][1]]]
+    return verts, faces
+
+
+WORK = 0xABCD0000
+
+
+def meshes(reference):
+    """Each mesh: the lengths of the three lists; the vertices' numbers; the faces' indices; the answer, its number (0 for a volume) and two values; work afterwards."""
+    r = random.Random(1797)
+    cases = [(list(sum(v, ())), list(sum(f, ())), len(f) * 3) for v, f in (TETRAHEDRON, OCTAHEDRON, CUBE)]
+    v, f = TETRAHEDRON
+    flat = lambda rows: [x for row in rows for x in row]
+    cases += [(flat(v), flat((a, c, b) for a, b, c in f), 12), (flat(v), flat(f[:3]), 12), (flat(v), flat(f[:3] + [(1, 3, 2)]), 12), (flat(v), [0, 0, 1], 12), (flat(v), [], 0), ([], [], 0), ([], [0, 0, 0], 3)]
+    while len(cases) < 420:
+        v, f = damaged(r, *closed_mesh(r))
+        v, f = flat(v), flat(f)
+        n = len(f) + r.choice((0, 0, 0, 1, 5, -1 if f else 0))
+        lengths = r.randrange(40)
+        if lengths == 0:
+            v = v[:-r.randrange(1, 3)]
+        elif lengths == 1:
+            f = f[:-r.randrange(1, 3)]
+        cases.append((v, f, n))
+    asked, early = [], {}
+    for k, (v, f, n) in enumerate(cases):
+        if len(v) % 3 or len(f) % 3:
+            early[k] = [1]
+        elif n < len(f):
+            early[k] = [12]
+        else:
+            body = "%d %d %s %s" % (len(v) // 3, len(f) // 3, " ".join("%016x" % bits(float(x)) for x in v), " ".join(map(str, f)))
+            asked += ["check_mesh " + body, "order_list " + body]
+    out = iter(subprocess.run([reference], input="\n".join(asked) + "\n", capture_output=True, text=True, check=True).stdout.splitlines())
+    for k, (v, f, n) in enumerate(cases):
+        work = [WORK + i for i in range(n)]
+        if k in early:
+            answer = early[k]
+        else:
+            kind, *words = next(out).split()
+            order = next(out).split()
+            answer = [0, int(words[0], 16)] if kind == "ok" else [int(w) for w in words]
+            if answer[0] in (0, 5, 6, 7, 8):
+                work[:len(f)] = [int(w) for w in order[1:]]
+        answer = (answer + [0, 0])[:3]
+        yield ["%016x" % w for w in [len(v), len(f), n] + [bits(float(x)) for x in v] + list(f) + answer + work]
+
+
 LISTS = {"roots": roots, "carlson": carlson}
 # for a list of several calls: each call's number, and how many arguments a line has
 CALLS = {"carlson": ({"rc": 1, "ln": 2, "atan": 3, "atan2": 4}, 2)}
@@ -107,5 +220,7 @@ def answers(reference, requests, calls, width):
 
 
 if __name__ == "__main__":
-    for words in answers(sys.argv[1], LISTS[sys.argv[2]](), *CALLS.get(sys.argv[2], ({}, 0))):
+    reference, name = sys.argv[1:]
+    lines = meshes(reference) if name == "meshes" else answers(reference, LISTS[name](), *CALLS.get(name, ({}, 0)))
+    for words in lines:
         print(" ".join(words))

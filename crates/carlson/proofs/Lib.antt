@@ -1,0 +1,4 @@
+-- Lemmas that the functions' proofs cite.
+mod Quadrants
+mod LnBits
+mod LnCases

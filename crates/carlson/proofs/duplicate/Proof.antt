@@ -1,0 +1,22 @@
+-- `carlson::duplicate` meets its contract. Assumes nothing.
+use borrow.Author.Needs.{needs}
+use Rattle.carlson.specs.Rc.{duplicate}
+use Rattle.carlson.proofs.duplicate.Statement.{statement}
+use Rattle.carlson.proofs.duplicate.Tie as tie
+
+returns : tie.Need-returns
+unfolding duplicate
+returns c = cc
+
+pub duplicate-spec : {M : Type 1} → statement M
+duplicate-spec =
+    tie.close
+    (tie.spec
+    (λ c κs. search needs)
+    (λ c κs. search needs)
+    (λ c κs. search needs)
+    (λ c κs. search needs)
+    (λ c κs. search needs)
+    (λ c κs. search needs)
+    (λ c. search needs)
+    returns)

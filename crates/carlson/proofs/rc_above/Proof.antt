@@ -1,0 +1,28 @@
+-- `carlson::rc_above` meets its contract. Assumes nothing.
+use borrow.Author.Needs.{needs}
+use Rattle.carlson.specs.Rc.{duplications, rcAbove}
+use Rattle.carlson.proofs.rc_above.Statement.{statement}
+use Rattle.carlson.proofs.rc_above.Tie as tie
+
+returns : tie.Need-returns
+unfolding duplications rcAbove
+returns c = let u = c .before in rw (← u .before .before .abs .ensures, ← u .before .repeat .ensures, ← u .loop-test .ensures, c .if1 .taken)
+
+returns-2 : tie.Need-returns-2
+unfolding duplications rcAbove
+returns-2 c =
+    let i = c .before .before .before .before in
+    let u = i .before in
+    rw (← u .before .before .abs .ensures, ← u .before .repeat .ensures, ← u .loop-test .ensures, i .if1 .left, ← c .root .ensures, ← c .before .series .ensures)
+
+pub rc-above-spec : {M : Type 1} → statement M
+rc-above-spec =
+    tie.close
+    (tie.spec
+    (λ c κs. search needs)
+    (λ c κs. search needs)
+    (λ c κs. search needs)
+    returns
+    (λ c κs. search needs)
+    (λ c κs. search needs)
+    returns-2)
