@@ -1,0 +1,29 @@
+-- `mesh::surface::normal` meets its contract. Assumes nothing.
+use borrow.Author.Needs.{needs}
+use Rattle.mesh.specs.Surface.{normal}
+use Rattle.mesh.proofs.surface.normal.Statement.{statement}
+use Rattle.mesh.proofs.surface.normal.Tie as tie
+
+returns : tie.Need-returns
+unfolding normal
+returns c =
+    simp (
+      c .cross .ensures,
+      c .before .difference2 .ensures,
+      c .before .before .difference .ensures,
+      c .before .before .before .corner3 .ensures,
+      c .before .before .before .before .corner2 .ensures,
+      c .before .before .before .before .before .corner .ensures,
+    )
+
+pub normal-spec : {M : Type 1} → statement M
+normal-spec =
+    tie.close
+    (tie.spec
+    (λ c κs. search needs)
+    (λ c κs. search needs)
+    (λ c κs. search needs)
+    (λ c κs. search needs)
+    (λ c κs. search needs)
+    (λ c κs. search needs)
+    returns)

@@ -1,0 +1,105 @@
+// The scans of `check_mesh`: the first number, corner or place of the order list that fails a test.
+ghost use mathlib.Core.Path.{_≡_};
+ghost use Prim.Native.Nat.{_*_, _<_, _≤_};
+ghost use lib.ListN.{length};
+ghost use lib.Dec.{leb};
+ghost use Rattle.orders.specs.Edges.{from, to, occurrences, maxFaces, Faces};
+ghost use Rattle.orders.specs.Order.{orderList, Uses};
+ghost use Rattle.mesh.specs.Check.{outOfLimits, noSuchVertex, flippedEdge, openEdge};
+use doubles::within_limits;
+use orders::edges::edge;
+use orders::edges::end;
+use orders::edges::reverse;
+use orders::edges::start;
+use orders::mates::mate;
+use orders::order::pass;
+use orders::order::room;
+use refusals::Cause;
+use refusals::Refusal;
+
+// Cause 3: a number that is not finite, or over 10⁹.
+pub fn out_of_limits(numbers: &[f64]) -> Cause
+    ensures { λ r. ⌜ r ≡ outOfLimits (now (numbers .entry)) ⌝ }
+{
+    let mut i = 0;
+    while i < numbers.len() {
+        if !within_limits(numbers[i]) {
+            return Cause::Refused(Refusal::OutOfLimits);
+        }
+        i += 1;
+    }
+    Cause::None
+}
+
+// Cause 4: the face of the first corner that names none of the vertices.
+pub fn no_such_vertex(vertices: usize, faces: &[u32]) -> Cause
+    requires { ⌜ length (now faces) ≤ 3 * maxFaces ⌝ }
+    ensures { λ r. ⌜ r ≡ noSuchVertex vertices (now (faces .entry)) ⌝ }
+{
+    let mut i = 0;
+    while i < faces.len() {
+        if vertices <= faces[i] as usize {
+            return Cause::Refused(Refusal::NoSuchVertex((i / 3) as u32));
+        }
+        i += 1;
+    }
+    Cause::None
+}
+
+// Cause 5: the first edge in the order list that occurs twice, which stands at the next place too.
+pub(crate) fn flipped_edge(faces: &[u32], order: &[u32]) -> Cause
+    requires { ⌜ Faces (now faces) × (now order ≡ orderList (now faces)) ⌝ }
+    ensures { λ r. ⌜ r ≡ flippedEdge (now (faces .entry)) (orderList (now (faces .entry))) ⌝ }
+{
+    let mut i = 0;
+    while i + 1 < order.len() {
+        let u = order[i];
+        if edge(faces, u) == edge(faces, order[i + 1]) {
+            return Cause::Refused(Refusal::Flipped(start(faces, u), end(faces, u)));
+        }
+        i += 1;
+    }
+    Cause::None
+}
+
+// Whether the reverse of use u's edge occurs. w is a guess at the use that has it.
+fn has_reverse(faces: &[u32], order: &[u32], u: u32, w: u32) -> bool
+    requires { ⌜ Faces (now faces) × (now order ≡ orderList (now faces)) × (u < length (now faces)) × (w < length (now faces)) ⌝ }
+    ensures { λ r. ⌜ r ≡ leb 1 (occurrences (now (faces .entry)) (to (now (faces .entry)) u) (from (now (faces .entry)) u)) ⌝ }
+{
+    if edge(faces, w) == reverse(faces, u) {
+        return true;
+    }
+    if (mate(faces, order, u) as usize) < faces.len() {
+        return true;
+    }
+    false
+}
+
+// Cause 6, with a guess for the reverse of each use in the order list.
+fn first_open(faces: &[u32], order: &[u32], guesses: &[u32]) -> Cause
+    requires { ⌜ Faces (now faces) × (now order ≡ orderList (now faces)) × Uses (now faces) (now guesses) × (length (now guesses) ≡ length (now faces)) ⌝ }
+    ensures { λ r. ⌜ r ≡ openEdge (now (faces .entry)) (orderList (now (faces .entry))) ⌝ }
+{
+    let mut i = 0;
+    while i < order.len() {
+        let u = order[i];
+        if !has_reverse(faces, order, u, guesses[i]) {
+            return Cause::Refused(Refusal::Open(start(faces, u), end(faces, u)));
+        }
+        i += 1;
+    }
+    Cause::None
+}
+
+// Cause 6: the first edge in the order list whose reverse does not occur. Where every reverse occurs, once, the uses by to and from are the reverses of those by from
+// and to, place by place.
+pub(crate) fn open_edge(faces: &[u32], order: &[u32]) -> Cause
+    requires { ⌜ Faces (now faces) × (now order ≡ orderList (now faces)) ⌝ }
+    ensures { λ r. ⌜ r ≡ openEdge (now (faces .entry)) (orderList (now (faces .entry))) ⌝ }
+{
+    let n = order.len();
+    let mut by_end = room();
+    pass(faces, order, true, &mut by_end[..n]);
+    first_open(faces, order, &by_end[..n])
+}

@@ -1,0 +1,2 @@
+-- Laws that the proofs of the sort share.
+pub mod Passes

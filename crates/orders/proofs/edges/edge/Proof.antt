@@ -1,0 +1,13 @@
+-- `orders::edges::edge` meets its contract. Assumes nothing.
+use native.Mathlib.Omega.{arith}
+use borrow.Author.Needs.{needs}
+use Rattle.orders.specs.Edges.{edge}
+use Rattle.orders.proofs.edges.edge.Statement.{statement}
+use Rattle.orders.proofs.edges.edge.Tie as tie
+
+returns : tie.Need-returns
+unfolding edge
+returns c = omega (arith, c .number .ensures, c .before .end .ensures, c .before .before .start .ensures)
+
+pub edge-spec : {M : Type 1} → statement M
+edge-spec = tie.close (tie.spec (λ c κs. search needs) (λ c κs. search needs) (λ c κs. search needs) returns)
