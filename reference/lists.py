@@ -199,9 +199,98 @@ def meshes(reference):
         yield ["%016x" % w for w in [len(v), len(f), n] + [bits(float(x)) for x in v] + list(f) + answer + work]
 
 
+# ---- prisms: the station, min and max; the answer's thirteen numbers
+
+
+def orders_met(reference, r):
+    """Prisms with each order of the cubature up to 16, with 512 points, and with a few more than 512: chosen from many by the reference's own orders."""
+    tried = []
+    while len(tried) < 20000:
+        side = [2.0 ** r.uniform(0, 5) for _ in range(3)]
+        p = [r.uniform(-0.5, 1.5) * a for a in side]
+        p[r.randrange(3)] = -(2.0 ** r.uniform(-3, 5))
+        tried.append([bits(x) for x in (*p, 0.0, 0.0, 0.0, *side)])
+    text = "".join("orders " + " ".join("%016x" % b for b in c) + "\n" for c in tried)
+    out = subprocess.run([reference], input=text, capture_output=True, text=True, check=True).stdout.splitlines()
+    met, chosen = {}, []
+    for c, line in zip(tried, out):
+        distance, *n = line.split()[1:]
+        n = [int(x) for x in n]
+        product = n[0] * n[1] * n[2]
+        kinds = [("order", x) for x in n] if max(n) <= 16 and product <= 512 else []
+        kinds += [("product", product)] if 505 <= product <= 520 else []
+        if int(distance, 16) and any(met.get(k, 0) < 4 for k in kinds):
+            chosen.append(c)
+            for k in kinds:
+                met[k] = met.get(k, 0) + 1
+    assert all(met.get(("order", x), 0) for x in range(8, 17)) and met.get(("product", 512)) and any(met.get(("product", x)) for x in range(513, 521))
+    return chosen
+
+
+def prisms(reference):
+    r = random.Random(2000)
+    cases = []
+
+    def add(p, lo, hi):
+        cases.append([bits(float(x)) for x in (*p, *lo, *hi)])
+
+    def moved(p, lo, hi):
+        """The same at another place and scale."""
+        t, s = [r.choice((0.0, 1.0, -37.5, 1e4)) for _ in range(3)], r.choice((1.0, 1.0, 0.37, 1e3))
+        add(*([s * x + y for x, y in zip(v, t)] for v in (p, lo, hi)))
+
+    unit = ((0, 0, 0), (1, 1, 1))
+    # inside, on faces, edges and corners, on their extensions, and beside each
+    for _ in range(120):
+        side = [r.choice((1.0, 1.0, 0.5, 3.0)) for _ in range(3)]
+        moved([a * r.choice((-1.0, -0.25, 0.0, 0.25, 0.5, 0.7, 1.0, 1.25, 2.0)) for a in side], (0, 0, 0), side)
+    for a in (-1, 0, 0.5, 1, 2):
+        for b in (-1, 0, 1, 2):
+            for c in (0, 1):
+                add((a, b, c), *unit)
+    # at every distance: each order of the cubature, a product of orders of 512 and just over
+    for _ in range(160):
+        side = [r.uniform(0.5, 2.0) for _ in range(3)]
+        d = 2.0 ** r.uniform(-3, 12)
+        u = [r.gauss(0, 1) for _ in range(3)]
+        n = sum(x * x for x in u) ** 0.5
+        moved([x / n * d + a / 2 for x, a in zip(u, side)], (0, 0, 0), side)
+    for k in range(100):
+        add((0.5, 0.5, 1.0 + 0.02 * (k + 1)), *unit)
+    # near a long side: bisections at many depths
+    for _ in range(120):
+        long = 10.0 ** r.uniform(1, 4)
+        side = r.choice(([1.0, 1.0, long], [long, 1.0, 1.0], [1.0, long, 1.0], [long, long, 1.0], [1.0, long, long]))
+        p = [r.uniform(-0.2, 1.2) * a for a in side]
+        k = r.randrange(3)
+        p[k] = -(10.0 ** r.uniform(-3, 1))
+        moved(p, (0, 0, 0), side)
+    # equal longest sides, and thin plates: 33 bisections
+    for h in (0.1, 0.01, 1.0):
+        for w in (1e3, 1e4, 1e5):
+            add((w / 3, w / 3, h), (0, 0, -0.001), (w, w, 0))
+    # sides at the limit, coordinates at theirs
+    for d in (1e-6, 0.9999999e-6, 1.0000001e-6, 0.0, -1.0):
+        for k in range(3):
+            hi = [1.0, 1.0, 1.0]
+            hi[k] = d
+            add((2, 2, 2), (0, 0, 0), hi)
+            add((0.5, 0.5, 0.5), (0, 0, 0), hi)
+    for x in (1e9, -1e9, 1000000000.0000001, -1000000000.0000001, float("inf"), float("nan")):
+        add((x, 0, 0), *unit)
+        add((0, 0, x), (-1, -1, -1), (1, 1, 1))
+        add((0, 0, 0), (-1e9, -1e9, -1e9), (1e9, 1e9, abs(x)))
+        add((1, 2, 3), (x, 0, 0), (1e9, 1, 1))
+    return [("prism", c) for c in cases + orders_met(reference, r)]
+
+
 LISTS = {"roots": roots, "carlson": carlson}
 # for a list of several calls: each call's number, and how many arguments a line has
 CALLS = {"carlson": ({"rc": 1, "ln": 2, "atan": 3, "atan2": 4}, 2)}
+
+
+# calls whose answer is more than one number
+ANSWERS = {"prism": 13}
 
 
 def answers(reference, requests, calls, width):
@@ -211,7 +300,7 @@ def answers(reference, requests, calls, width):
     for (name, args), line in zip(requests, out):
         kind, *words = line.split()
         if kind == "refused":
-            words = ["%016x" % (INFINITY + int(words[0]))]
+            words = ["%016x" % (INFINITY + int(words[0]))] + ["%016x" % 0] * (ANSWERS.get(name, 1) - 1)
         else:
             assert kind == "ok", line
         head = ["%016x" % calls[name]] if calls else []
@@ -221,6 +310,11 @@ def answers(reference, requests, calls, width):
 
 if __name__ == "__main__":
     reference, name = sys.argv[1:]
-    lines = meshes(reference) if name == "meshes" else answers(reference, LISTS[name](), *CALLS.get(name, ({}, 0)))
+    if name == "meshes":
+        lines = meshes(reference)
+    elif name == "prisms":
+        lines = answers(reference, prisms(reference), {}, 0)
+    else:
+        lines = answers(reference, LISTS[name](), *CALLS.get(name, ({}, 0)))
     for words in lines:
         print(" ".join(words))

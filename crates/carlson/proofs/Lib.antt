@@ -2,3 +2,4 @@
 mod Quadrants
 mod LnBits
 mod LnCases
+mod One

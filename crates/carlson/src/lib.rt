@@ -1,11 +1,11 @@
 // Carlson's R_C, and ln, atan and atan2 by it.
 use refusals::Refusal;
-
 ghost use mathlib.Core.Path.{_≡_};
 ghost use Prim.Native.Nat.{_*_, _^_, _<_};
 ghost use lib.Dec.{T};
 ghost use lib.Ieee.{binary64, ofInt, minus};
 ghost use lib.Ieee.Positive.{positive};
+ghost use Rattle.roots.specs.Root.{Root};
 ghost use Rattle.carlson.specs.CarlsonLoop.{maxRounds, quarter, loopTest};
 ghost use Rattle.carlson.specs.Rounds.{rounds};
 ghost use Rattle.carlson.specs.Rc.{duplicate, testAt, series, rcAbove, times, rc, carlsonRc, rcValue};
@@ -20,7 +20,9 @@ pub const MAX_ROUNDS: u32 = 64;
 const RC_FACTOR: f64 = 78.8959690786408;
 
 const LN_2: f64 = 0.6931471805599453;
+
 const PI: f64 = 3.141592653589793;
+
 const FRAC_PI_2: f64 = 1.5707963267948966;
 
 // What the duplication carries from round to round: Carlson's x, y and A at round n, and f = 4^-n.
@@ -54,12 +56,22 @@ pub fn loop_test(q: f64, a: f64, f: f64) -> bool
     f * q >= doubles::abs(a)
 }
 
+// √x. atan's loop starts at x = 1, and the test spares it a root there.
+fn root_of(x: f64) -> f64
+    ensures { λ r. ⌜ r ≡ Root x ⌝ }
+{
+    if x == 1.0 {
+        return 1.0;
+    }
+    roots::root(x)
+}
+
 // From round n to n + 1.
 fn duplicate(s: Duplication) -> Duplication
     requires { ⌜ s .n < maxRounds ⌝ }
     ensures { λ r. ⌜ r ≡ duplicate s ⌝ }
 {
-    let lambda = 2.0 * roots::root(s.x) * roots::root(s.y) + s.y;
+    let lambda = 2.0 * root_of(s.x) * roots::root(s.y) + s.y;
     Duplication {
         x: quarter(s.x + lambda),
         y: quarter(s.y + lambda),

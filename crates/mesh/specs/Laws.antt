@@ -149,7 +149,7 @@ module _ (v : List Float) (f : List ℕ) where
       (each-none k (hasNormal v f) (λ j. Degenerate j) (λ j l. ap not (d .before j l)))
       (refuses (hasNormal v f k) (Degenerate k) (ap not (d .itself)))
 
--- ---- the cause 8
+  -- ---- the cause 8
 
   not-positive : inverted v f ≡ Refused Inverted → lt 0·0 (volume v f) ≡ false
   unfolding inverted
@@ -244,9 +244,11 @@ module _ (v : List Float) (f : List ℕ) (n : ℕ) where
   pub flipped : (a b : ℕ) → checkMesh v f n ≡ Mesh.Refused (Flipped a b) → Sound v f n × SmallestTwice f a b
   unfolding orderCause
   flipped a b e =
-      let s = late (Flipped a b) (omega arith) (omega arith) e in
-      (s .0, flipped-smallest f (sound-body v f n (s .0) .faces) a b
-      (decided 6 8 (flippedEdge f (orderList f)) after-flipped (Flipped a b) (only-after-flipped v f (orderList f)) (λ q. omega (arith, q .0)) (s .1)))
+      let s = late (Flipped a b) (omega arith) (omega arith) e in (
+        s .0,
+        flipped-smallest f (sound-body v f n (s .0) .faces) a b
+            (decided 6 8 (flippedEdge f (orderList f)) after-flipped (Flipped a b) (only-after-flipped v f (orderList f)) (λ q. omega (arith, q .0)) (s .1)),
+      )
 
   pub flips : (a b : ℕ) → Sound v f n → SmallestTwice f a b → checkMesh v f n ≡ Mesh.Refused (Flipped a b)
   unfolding orderCause
@@ -258,9 +260,12 @@ module _ (v : List Float) (f : List ℕ) (n : ℕ) where
   opened a b e =
       let s = late (Open a b) (omega arith) (omega arith) e in
       let h = sound-body v f n (s .0) .faces in
-      let t = skip 5 5 (flippedEdge f (orderList f)) after-flipped (Open a b) (only-flipped v f (orderList f)) (λ q. omega (arith, q .1)) (s .1) in
-      (s .0, none-flipped f h (t .0), open-smallest f h a b
-      (decided 7 8 (openEdge f (orderList f)) after-open (Open a b) (only-after-open v f) (λ q. omega (arith, q .0)) (t .1)))
+      let t = skip 5 5 (flippedEdge f (orderList f)) after-flipped (Open a b) (only-flipped v f (orderList f)) (λ q. omega (arith, q .1)) (s .1) in (
+        s .0,
+        none-flipped f h (t .0),
+        open-smallest f h a b
+            (decided 7 8 (openEdge f (orderList f)) after-open (Open a b) (only-after-open v f) (λ q. omega (arith, q .0)) (t .1)),
+      )
 
   pub opens : (a b : ℕ) → Sound v f n → ((c d : ℕ) → occurrences f c d ≤ 1) → SmallestOpen f a b → checkMesh v f n ≡ Mesh.Refused (Open a b)
   unfolding orderCause
@@ -272,9 +277,12 @@ module _ (v : List Float) (f : List ℕ) (n : ℕ) where
   degenerate k e =
       let s = late (Degenerate k) (omega arith) (omega arith) e in
       let t = skip 5 5 (flippedEdge f (orderList f)) after-flipped (Degenerate k) (only-flipped v f (orderList f)) (λ q. omega (arith, q .1)) (s .1) in
-      let u = skip 6 6 (openEdge f (orderList f)) after-open (Degenerate k) (only-open v f (orderList f)) (λ q. omega (arith, q .1)) (t .1) in
-      (s .0, none-closed f (sound-body v f n (s .0) .faces) (t .0) (u .0), degenerate-first v f k
-      (decided 8 8 (degenerateFace v f) (inverted v f) (Degenerate k) (only-inverted v f) (λ q. omega (arith, q .0)) (u .1)))
+      let u = skip 6 6 (openEdge f (orderList f)) after-open (Degenerate k) (only-open v f (orderList f)) (λ q. omega (arith, q .1)) (t .1) in (
+        s .0,
+        none-closed f (sound-body v f n (s .0) .faces) (t .0) (u .0),
+        degenerate-first v f k
+            (decided 8 8 (degenerateFace v f) (inverted v f) (Degenerate k) (only-inverted v f) (λ q. omega (arith, q .0)) (u .1)),
+      )
 
   pub degenerates : (k : ℕ) → Sound v f n → Closed f → FirstDegenerate v f k → checkMesh v f n ≡ Mesh.Refused (Degenerate k)
   unfolding orderCause

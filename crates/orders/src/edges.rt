@@ -5,6 +5,7 @@ ghost use Rattle.orders.specs.Edges.{from, to, edgeNumber, edge, reverse
 
 // The limits of document 01.
 pub const MAX_VERTICES: usize = 20000;
+
 pub const MAX_FACES: usize = 32768;
 
 // The vertex that edge use u leaves.

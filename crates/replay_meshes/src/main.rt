@@ -184,7 +184,11 @@ fn rest_of_line(line: &mut [u8], v: usize, f: usize, n: usize) -> Line
     if io::read_full(STDIN_FILENO, line) < line.len() {
         return Line::Differs;
     }
-    if agrees(line, v, f, n) { Line::Same } else { Line::Differs }
+    if agrees(line, v, f, n) {
+        Line::Same
+    } else {
+        Line::Differs
+    }
 }
 
 fn next_line() -> Line {

@@ -1,10 +1,10 @@
 // The square root of an f64, as IEEE 754 has it.
 ghost use mathlib.Core.Path.{_≡_};
 ghost use mathlib.Core.Bool.{true};
-ghost use Prim.Native.Nat.{_+_, _*_, _/_, _^_, _≤_, _<_};
+ghost use Prim.Native.Nat.{ℕ, _+_, _*_, _^_, _≤_, _<_};
 ghost use lib.Ieee.{binary64, ofBits};
 ghost use Rattle.roots.specs.Root.{Root};
-ghost use Rattle.roots.specs.NearestWhole.{Near, scaled};
+ghost use Rattle.roots.specs.NearestWhole.{Near, scaled, RootFrom};
 
 // The root of a * 2^52, rounded to a whole number: digit by digit, from the highest. w holds the digits
 // of a that are still to come; q is the root so far and r the rest.
@@ -104,22 +104,39 @@ fn significand(b: u64) -> u64
     by_digits(n >> 10)
 }
 
-// The root of a normal number above zero, by its bits.
-fn normal(b: u64) -> f64
-    requires { ⌜ (0 < b / 2 ^ 52) × (b < 2047 * 2 ^ 52) ⌝ }
-    ensures { λ r. ⌜ r ≡ Root (ofBits binary64 b) ⌝ }
-{
-    f64::from_bits(((((b >> 52) + 1021) >> 1) << 52) + significand(b))
+// A normal number whose root has the same digits: its pattern, of which only the digits and the lowest
+// bit of the exponent count; and twice the exponent's field that the root's digits are to be added to.
+struct Normal {
+    pattern: u64,
+    twice: u64,
 }
 
-// The root of a number below the normal ones, by its bits: its digits are shifted until there are 53.
-fn subnormal(b: u64) -> f64
-    requires { ⌜ (0 < b) × (b < 2 ^ 52) ⌝ }
+// A number below the normal ones is shifted until it has 53 digits.
+fn normalised(b: u64) -> Normal
+    requires { ⌜ (0 < b) × (b < 2047 * 2 ^ 52) ⌝ }
+    ensures { λ n. ⌜ ((c : ℕ) → Near (scaled (n .pattern) * 2 ^ 42) c → RootFrom b (n .twice) c) ⌝ }
+{
+    if b < 0x10_0000_0000_0000 {
+        let z = (u64::leading_zeros(b) as u64) - 11;
+        return Normal {
+            pattern: ((b << z) & 0xf_ffff_ffff_ffff) + (((z + 1) & 1) << 52),
+            twice: 1022 - z,
+        };
+    }
+    Normal {
+        pattern: b,
+        twice: (b >> 52) + 1021,
+    }
+}
+
+// The root of a finite number above zero, by its bits. There is one call of `significand`, so that it is
+// compiled in place.
+fn positive(b: u64) -> f64
+    requires { ⌜ (0 < b) × (b < 2047 * 2 ^ 52) ⌝ }
     ensures { λ r. ⌜ r ≡ Root (ofBits binary64 b) ⌝ }
 {
-    let z = (u64::leading_zeros(b) as u64) - 11;
-    let c = significand(((b << z) & 0xf_ffff_ffff_ffff) + (((z + 1) & 1) << 52));
-    f64::from_bits((((1022 - z) >> 1) << 52) + c)
+    let n = normalised(b);
+    f64::from_bits(((n.twice >> 1) << 52) + significand(n.pattern))
 }
 
 pub fn root(x: f64) -> f64
@@ -129,14 +146,11 @@ pub fn root(x: f64) -> f64
         return x;
     }
     let b = f64::to_bits(x);
-    if std::num::wrapping_sub_u64(b >> 52, 1) < 2046 {
-        return normal(b);
+    if std::num::wrapping_sub_u64(b, 1) < 0x7fef_ffff_ffff_ffff {
+        return positive(b);
     }
     if b == 0 {
         return x;
-    }
-    if b < 0x10_0000_0000_0000 {
-        return subnormal(b);
     }
     if b == 0x7ff0_0000_0000_0000 {
         return x;

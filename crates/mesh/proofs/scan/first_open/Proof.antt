@@ -62,9 +62,11 @@ loop-again c =
     let at = c .before .before .before .before .before in
     let st = at .before .before .before .before in
     let f = now (st .args .faces) in
-    let o = now (st .args .order) in
-    (omega arith, scan-more (length f) (reverseOccurs f o) (openAt f o) (at .loop .i) (at .loop .inv .1)
-    (sym (c .before .has-reverse .ensures) ∙ not-false _ (c .if1 .left)))
+    let o = now (st .args .order) in (
+      omega arith,
+      scan-more (length f) (reverseOccurs f o) (openAt f o) (at .loop .i) (at .loop .inv .1)
+          (sym (c .before .has-reverse .ensures) ∙ not-false _ (c .if1 .left)),
+    )
 
 returns-2 : tie.Need-returns-2 Inv-loop μ-loop
 unfolding openEdge

@@ -38,9 +38,11 @@ returns c =
 loop-again : tie.Need-loop-again Inv-loop μ-loop
 loop-again c =
     let at = c .before .before .before in
-    let f = now (at .before .args .faces) in
-    (omega arith, scan-more (length f) (namesVertex (at .before .args .vertices) f) (λ i. NoSuchVertex (i / 3)) (at .loop .i) (at .loop .inv .1)
-    (lt-ltb _ _ (c .if1 .left)))
+    let f = now (at .before .args .faces) in (
+      omega arith,
+      scan-more (length f) (namesVertex (at .before .args .vertices) f) (λ i. NoSuchVertex (i / 3)) (at .loop .i) (at .loop .inv .1)
+          (lt-ltb _ _ (c .if1 .left)),
+    )
 
 returns-2 : tie.Need-returns-2 Inv-loop μ-loop
 unfolding noSuchVertex

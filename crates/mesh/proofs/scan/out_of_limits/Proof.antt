@@ -33,9 +33,11 @@ returns c =
 loop-again : tie.Need-loop-again Inv-loop μ-loop
 loop-again c =
     let at = c .before .before .before .before in
-    let v = now (at .before .before .args .numbers) in
-    (omega arith, scan-more (length v) (inLimits v) (λ i. OutOfLimits) (at .loop .i) (at .loop .inv .1)
-    (sym (c .before .within-limits .ensures) ∙ not-false _ (c .if1 .left)))
+    let v = now (at .before .before .args .numbers) in (
+      omega arith,
+      scan-more (length v) (inLimits v) (λ i. OutOfLimits) (at .loop .i) (at .loop .inv .1)
+          (sym (c .before .within-limits .ensures) ∙ not-false _ (c .if1 .left)),
+    )
 
 returns-2 : tie.Need-returns-2 Inv-loop μ-loop
 unfolding outOfLimits

@@ -46,9 +46,11 @@ loop-again c =
     let at = c .before .before .before .before in
     let st = at .before .before .before in
     let v = now (st .args .verts) in
-    let f = now (st .args .faces) in
-    (omega arith, scan-more (faceCount f) (hasNormal v f) (λ k. Degenerate k) (at .loop .k) (at .loop .inv .1)
-    (ap not (ap isZero (sym (c .before .before .normal .ensures)) ∙ sym (c .before .is-zero .ensures) ∙ c .if1 .left)))
+    let f = now (st .args .faces) in (
+      omega arith,
+      scan-more (faceCount f) (hasNormal v f) (λ k. Degenerate k) (at .loop .k) (at .loop .inv .1)
+          (ap not (ap isZero (sym (c .before .before .normal .ensures)) ∙ sym (c .before .is-zero .ensures) ∙ c .if1 .left)),
+    )
 
 returns-2 : tie.Need-returns-2 Inv-loop μ-loop
 unfolding degenerateFace
