@@ -1,11 +1,11 @@
 -- A double that equals 1 is 1, and so is its root. Assumes nothing.
 use mathlib.Core.Path.{_≡_, refl, sym, ap, _∙_}
-use Prim.Native.Nat.{ℕ, zero, suc, _*_, _<_}
-use native.Mathlib.Nat.{mul-one, one-mul, zero-lt-suc}
+use Prim.Native.Nat.{ℕ, _*_, _<_}
+use native.Mathlib.Nat.{zero-lt-suc}
 use native.Mathlib.Omega.{arith}
-use mathlib.Core.Bool.{Bool, true, false, _&&_, _||_, Bool·beq, false≢true}
+use mathlib.Core.Bool.{Bool, true, false, _||_, Bool·beq, false≢true}
 use lib.Dec.{T, eqb, eqb→eq}
-use lib.IntN.{ℤ, pos}
+use lib.IntN.{pos}
 use lib.Ieee.{Float, nan, inf, fin, binary64, fits, up, down, ofBits, eq}
 use lib.Ieee.Fits.{and-l, and-r, down-pos}
 use Rattle.doubles.specs.Constants.{1·0}

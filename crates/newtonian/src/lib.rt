@@ -1,6 +1,6 @@
 // The field record, potential, gradient and Hessian at unit Gρ, and vectors of three doubles.
 ghost use mathlib.Core.Path.{_≡_};
-ghost use Rattle.newtonian.specs.Vectors.{difference, dot, cross};
+ghost use Rattle.newtonian.specs.Vectors.{difference, dot, cross, zeroField};
 
 pub struct Vector {
     pub x: f64,
@@ -44,5 +44,21 @@ pub fn cross(a: Vector, b: Vector) -> Vector
         x: a.y * b.z - a.z * b.y,
         y: a.z * b.x - a.x * b.z,
         z: a.x * b.y - a.y * b.x,
+    }
+}
+
+// Where a sum of fields starts.
+pub fn zero_field() -> Newtonian
+    ensures { λ r. ⌜ r ≡ zeroField ⌝ }
+{
+    let o = Vector {
+        x: 0.0,
+        y: 0.0,
+        z: 0.0,
+    };
+    Newtonian {
+        potential: 0.0,
+        gradient: o,
+        hessian: Hessian { x: o, y: o, z: o },
     }
 }

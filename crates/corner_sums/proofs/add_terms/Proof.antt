@@ -1,0 +1,21 @@
+-- `corner_sums::add_terms` meets its contract. Assumes nothing.
+use borrow.Author.Needs.{needs}
+use Rattle.corner_sums.specs.CornerSums.{addTerms}
+use Rattle.corner_sums.proofs.add_terms.Statement.{statement}
+use Rattle.corner_sums.proofs.add_terms.Tie as tie
+
+returns : tie.Need-returns
+unfolding addTerms
+returns c =
+    simp (
+      c .before .before .before .before .before .before .before .gradient-term3 .ensures,
+      c .before .before .before .before .before .before .before .before .before .gradient-term2 .ensures,
+      c .before .before .before .before .before .before .before .before .before .before .before .gradient-term .ensures,
+      c .before .before .before .before .before .before .before .before .before .before .before .before .potential-term3 .ensures,
+      c .before .before .before .before .before .before .before .before .before .before .before .before .before .potential-term2 .ensures,
+      c .before .before .before .before .before .before .before .before .before .before .before .before .before .before .before .potential-term .ensures,
+    )
+
+pub add-terms-spec : {M : Type 1} → statement M
+add-terms-spec = tie.close (tie.spec
+    (λ c κs. search needs) (λ c κs. search needs) (λ c κs. search needs) (λ c κs. search needs) (λ c κs. search needs) (λ c κs. search needs) returns)

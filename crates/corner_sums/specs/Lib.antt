@@ -1,0 +1,2 @@
+-- The field of a rectangular prism in closed form.
+pub mod CornerSums

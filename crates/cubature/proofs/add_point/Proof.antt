@@ -1,0 +1,30 @@
+-- `cubature::add_point` meets its contract. Assumes nothing.
+use borrow.Author.Needs.{needs}
+use Rattle.cubature.specs.Cubature.{addPoint}
+use Rattle.cubature.proofs.add_point.Statement.{statement}
+use Rattle.cubature.proofs.add_point.Tie as tie
+
+returns : tie.Need-returns
+unfolding addPoint
+returns c =
+    let b = c .before .before .before in
+    simp (
+      c .row-terms3 .ensures,
+      c .before .row-terms2 .ensures,
+      c .before .before .row-terms .ensures,
+      b .gradient-terms .ensures,
+      b .before .before .root .ensures,
+      b .before .before .before .dot .ensures,
+    )
+
+pub add-point-spec : {M : Type 1} → statement M
+add-point-spec =
+    tie.close
+    (tie.spec
+    (λ c κs. search needs)
+    (λ c κs. search needs)
+    (λ c κs. search needs)
+    (λ c κs. search needs)
+    (λ c κs. search needs)
+    (λ c κs. search needs)
+    returns)

@@ -1,0 +1,12 @@
+-- `cubature::half_widths` meets its contract. Assumes nothing.
+use mathlib.Core.Path.{refl}
+use Rattle.cubature.specs.Cubature.{halfWidths}
+use Rattle.cubature.proofs.half_widths.Statement.{statement}
+use Rattle.cubature.proofs.half_widths.Tie as tie
+
+returns : tie.Need-returns
+unfolding halfWidths
+returns c = refl
+
+pub half-widths-spec : {M : Type 1} → statement M
+half-widths-spec = tie.close (tie.spec returns)

@@ -1,0 +1,12 @@
+-- `cubature::point_weight` meets its contract. Assumes nothing.
+use mathlib.Core.Path.{refl}
+use Rattle.cubature.specs.Cubature.{pointWeight}
+use Rattle.cubature.proofs.point_weight.Statement.{statement}
+use Rattle.cubature.proofs.point_weight.Tie as tie
+
+returns : tie.Need-returns
+unfolding pointWeight
+returns c = refl
+
+pub point-weight-spec : {M : Type 1} → statement M
+point-weight-spec = tie.close (tie.spec returns)

@@ -1,0 +1,2 @@
+-- The field of a rectangular prism by Gauss-Legendre cubature.
+pub mod Cubature

@@ -1,0 +1,31 @@
+-- The three ways out of `pieces`. Assumes nothing.
+use Prim.Native.Nat.{ℕ, zero, suc, _-_}
+use mathlib.Core.Path.{_≡_, refl}
+use native.Mathlib.Numerals.{sub-one}
+use Rattle.refusals.specs.Answer.{value, refused}
+use Rattle.refusals.specs.declared.Refusal.the-variants.{TooDeep}
+use Rattle.newtonian.specs.declared.Vector.{Vector}
+use Rattle.newtonian.specs.declared.Newtonian.{Newtonian}
+use Rattle.prism.specs.declared.AxisRule.{AxisRule}
+use Rattle.prism.specs.declared.Piece.the-variants.{Whole, Halves}
+use Rattle.prism.specs.Bisection.{pieceOf}
+use Rattle.prism.specs.Prism.{join, pieces}
+
+module _ (rule : AxisRule) (i : ℕ) (p lo hi : Vector) where
+  pub whole : (n : ℕ) (f : Newtonian) → pieceOf rule p lo hi ≡ Whole f → pieces rule i n p lo hi ≡ value f
+  unfolding pieces
+  whole zero f e = simp e
+  whole (suc n) f e = simp e
+
+  pub ends : (upper lower : Vector) → pieceOf rule p lo hi ≡ Halves upper lower → pieces rule i 0 p lo hi ≡ refused (TooDeep i)
+  unfolding pieces
+  ends upper lower e = simp e
+
+  pub halved :
+      (n : ℕ) (upper lower : Vector) →
+      (n ≡ 0 → ⊥) →
+      pieceOf rule p lo hi ≡ Halves upper lower →
+      pieces rule i n p lo hi ≡ join (pieces rule i (n - 1) p lo upper) (pieces rule i (n - 1) p lower hi)
+  unfolding pieces
+  halved zero upper lower h e = absurd (h refl)
+  halved (suc n) upper lower h e = simp (e, sub-one (suc n))

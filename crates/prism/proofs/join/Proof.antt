@@ -1,0 +1,30 @@
+-- `prism::join` meets its contract. Assumes nothing.
+use borrow.Author.Needs.{needs}
+use Rattle.prism.specs.Prism.{join}
+use Rattle.prism.proofs.join.Statement.{statement}
+use Rattle.prism.proofs.join.Tie as tie
+
+returns : tie.Need-returns
+unfolding join
+returns c = simp (c .before .a .given .1)
+
+returns-2 : tie.Need-returns-2
+unfolding join
+returns-2 c = simp (c .before .b .given .1, c .before .before .before .before .a2 .given .1)
+
+returns-3 : tie.Need-returns-3
+unfolding join
+returns-3 c = simp (c .before .before .b2 .given .1, c .before .before .before .before .before .a2 .given .1, c .add-fields .ensures)
+
+pub join-spec : {M : Type 1} → statement M
+join-spec =
+    tie.close
+    (tie.spec
+    (λ c. search needs)
+    (λ c. search needs)
+    (λ c. search needs)
+    (λ c. search needs)
+    (λ c κs. search needs)
+    returns
+    returns-2
+    returns-3)

@@ -1,0 +1,30 @@
+-- `prism::longest` meets its contract. Assumes nothing.
+use mathlib.Core.Path.{_≡_, refl}
+use Rattle.newtonian.specs.declared.Vector.{Vector}
+use Rattle.prism.specs.declared.AxisRule.{AxisRule}
+use Rattle.prism.specs.declared.AxisRule.the-variants.{LastOfEquals}
+use Rattle.prism.specs.Bisection.{longest}
+use Rattle.prism.proofs.longest.Statement.{statement}
+use Rattle.prism.proofs.longest.Tie as tie
+
+last : (rule : AxisRule) (h : Vector) → longest rule h ≡ longest LastOfEquals h
+last LastOfEquals h = refl
+
+returns : tie.Need-returns
+unfolding longest
+returns c = simp (last (c .before .before .before .before .args .rule) (c .before .before .before .before .args .h), c .if2 .taken, c .before .before .if1 .taken)
+
+returns-2 : tie.Need-returns-2
+unfolding longest
+returns-2 c = simp (last (c .before .before .before .before .args .rule) (c .before .before .before .before .args .h), c .if2 .left, c .before .before .if1 .taken)
+
+returns-3 : tie.Need-returns-3
+unfolding longest
+returns-3 c = simp (last (c .before .before .before .before .args .rule) (c .before .before .before .before .args .h), c .if3 .taken, c .before .before .if1 .left)
+
+returns-4 : tie.Need-returns-4
+unfolding longest
+returns-4 c = simp (last (c .before .before .before .before .args .rule) (c .before .before .before .before .args .h), c .if3 .left, c .before .before .if1 .left)
+
+pub longest-spec : {M : Type 1} → statement M
+longest-spec = tie.close (tie.spec returns returns-2 returns-3 returns-4)
