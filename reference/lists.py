@@ -86,6 +86,27 @@ def carlson():
         [("rc", a) for a in rc] + [("ln", (a,)) for a in ln] + [("atan", (a,)) for a in atan] + [("atan2", a) for a in atan2])
 
 
+def special():
+    """R_F, R_D, R_J, complete_elliptic, cel and ring: the call's number, four arguments (0 where there are fewer), three numbers of the answer (0 likewise)."""
+    r = random.Random(1969)
+    f = lambda *xs: tuple(bits(x) for x in xs)
+    some = [0, TOP, 1, bits(1e-300), bits(1e-8), bits(0.5), bits(1.0), bits(2.0), bits(1e8), bits(1e300), INFINITY, 0x7FF8000000000000, bits(-1.0)]
+    any3 = [(x, y, z) for x in some[:9] for y in some[:9] for z in some[:9]]
+    odd3 = [tuple(r.choice(some) for _ in range(3)) for _ in range(200)]
+    near3 = [tuple(log_uniform(r, -20, 20) for _ in range(3)) for _ in range(300)]
+    far3 = [tuple(log_uniform(r, -1022, 1023) for _ in range(3)) for _ in range(100)]
+    three = any3 + odd3 + near3 + far3
+    rj = [(*t, p) for t in odd3 + near3[:150] for p in (r.choice(some), log_uniform(r, -20, 20), TOP | log_uniform(r, -20, 20))] + [(*t, log_uniform(r, -1022, 1023)) for t in far3]
+    m = some + near(bits(1.0)) + [bits(r.random()) for _ in range(700)] + [bits(1.0 - 2.0 ** -r.uniform(1, 53)) for _ in range(200)] + [log_uniform(r, -1022, 0) for _ in range(150)]
+    cel = [tuple(r.choice(some) for _ in range(4)) for _ in range(300)] + [f(r.uniform(-2, 2), r.uniform(-0.2, 3), r.uniform(-2, 2), r.uniform(-2, 2)) for _ in range(600)]
+    cel += [(log_uniform(r, -60, 60), log_uniform(r, -60, 60), log_uniform(r, -60, 60), log_uniform(r, -60, 60)) for _ in range(200)]
+    ring = [f(r.uniform(0.1, 3), r.uniform(0, 3), r.uniform(-3, 3)) for _ in range(500)] + [f(1.0, 2.0 ** -r.uniform(1, 60), r.uniform(-2, 2)) for _ in range(200)]
+    ring += [f(1.0, 1.0 + k * 2.0 ** -r.uniform(1, 52), r.choice((0.0, 1e-3, -0.5))) for _ in range(100) for k in (-1, 1)] + [f(r.choice((1.0, 0.0, -1.0, 1e9, 2e9)), r.choice((0.0, 1.0, -1.0)), r.choice((0.0, -0.0, 1.0, 1e9))) for _ in range(80)]
+    ring += [tuple(r.choice(some) for _ in range(3)) for _ in range(150)]
+    calls = [("rf", three), ("rd", three), ("rj", rj), ("complete_elliptic", [(b,) for b in m]), ("cel", cel), ("ring", ring)]
+    return [(name, a) for name, args in calls for a in args]
+
+
 # ---- meshes: a list of vertices, a list of faces, the length of work
 
 TETRAHEDRON = ([(0, 0, 0), (1, 0, 0), (0, 1, 0), (0, 0, 1)], [(0, 2, 1), (0, 1, 3), (0, 3, 2), (1, 2, 3)])
@@ -284,13 +305,16 @@ def prisms(reference):
     return [("prism", c) for c in cases + orders_met(reference, r)]
 
 
-LISTS = {"roots": roots, "carlson": carlson}
+LISTS = {"roots": roots, "carlson": carlson, "special": special}
 # for a list of several calls: each call's number, and how many arguments a line has
-CALLS = {"carlson": ({"rc": 1, "ln": 2, "atan": 3, "atan2": 4}, 2)}
+CALLS = {
+    "carlson": ({"rc": 1, "ln": 2, "atan": 3, "atan2": 4}, 2),
+    "special": ({"rf": 1, "rd": 2, "rj": 3, "complete_elliptic": 4, "cel": 5, "ring": 6}, 4),
+}
 
 
-# calls whose answer is more than one number
-ANSWERS = {"prism": 13}
+# how many numbers an answer has on its line, where more than one
+ANSWERS = {"prism": 13} | {name: 3 for name in CALLS["special"][0]}
 
 
 def answers(reference, requests, calls, width):
@@ -303,6 +327,7 @@ def answers(reference, requests, calls, width):
             words = ["%016x" % (INFINITY + int(words[0]))] + ["%016x" % 0] * (ANSWERS.get(name, 1) - 1)
         else:
             assert kind == "ok", line
+            words += ["%016x" % 0] * (ANSWERS.get(name, 1) - len(words))
         head = ["%016x" % calls[name]] if calls else []
         pad = ["%016x" % 0] * (width - len(args)) if calls else []
         yield head + ["%016x" % b for b in args] + pad + [w if w != "nan" else "7ff8000000000000" for w in words]

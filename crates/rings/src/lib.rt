@@ -1,0 +1,335 @@
+// The complete elliptic integrals, Bulirsch's cel, and the average of 1/r over a ring.
+use carlson::Integral;
+use refusals::Refusal;
+ghost use mathlib.Core.Path.{_≡_};
+ghost use Rattle.carlson.specs.Rounds.{rounds};
+ghost use Rattle.rings.specs.Elliptic.{maxMeans, nextMean, meanTest, elliptic, completeElliptic};
+ghost use Rattle.rings.specs.Cel.{maxTurns, firstHalf, secondHalf, turn, celTest, celEnd, celOf, allFinite, cel};
+ghost use Rattle.rings.specs.Ring.{nearAxis, offAxis, ∂ρ, ringAt, inDomain, ringWithin, ring};
+
+const FRAC_PI_2: f64 = 1.5707963267948966;
+
+const PI: f64 = 3.141592653589793;
+
+// 2^-52
+const EPSILON: f64 = 0.0000000000000002220446049250313;
+
+// The Rust's loops end after 64 rounds and refuse nothing. The first half of cel's first round
+// stands before its loop.
+const MAX_MEANS: u32 = 64;
+
+const MAX_TURNS: u32 = 63;
+
+// The arithmetic-geometric mean's a, b and c at round n, the sum of 2^(n-1) c^2, and 2^(n-1).
+pub struct Mean {
+    pub a: f64,
+    pub b: f64,
+    pub c: f64,
+    pub sum: f64,
+    pub weight: f64,
+}
+
+// K(m) and E(m).
+pub struct Complete {
+    pub k: f64,
+    pub e: f64,
+}
+
+pub enum CompleteIntegrals {
+    Values(Complete),
+    Refused(Refusal),
+}
+
+// Bulirsch's k_c, e, m, p, a and b, and the m before.
+pub struct Bulirsch {
+    pub kc: f64,
+    pub e: f64,
+    pub m: f64,
+    pub previous: f64,
+    pub p: f64,
+    pub a: f64,
+    pub b: f64,
+}
+
+// The average of 1/r over a ring, and its derivatives by ρ and z.
+pub struct RingAverage {
+    pub v: f64,
+    pub drho: f64,
+    pub dz: f64,
+}
+
+pub enum RingAnswer {
+    Value(RingAverage),
+    Refused(Refusal),
+}
+
+// ---- K and E
+
+// One round of the mean.
+fn next_mean(s: Mean) -> Mean
+    ensures { λ r. ⌜ r ≡ nextMean s ⌝ }
+{
+    let c = 0.5 * (s.a - s.b);
+    let w = s.weight * 2.0;
+    Mean {
+        a: 0.5 * (s.a + s.b),
+        b: roots::root(s.a * s.b),
+        c,
+        sum: s.sum + w * c * c,
+        weight: w,
+    }
+}
+
+fn mean_test(s: Mean) -> bool
+    ensures { λ r. ⌜ r ≡ meanTest s ⌝ }
+{
+    !(s.c <= EPSILON * s.a)
+}
+
+// Rounds of the mean while its test holds, at most MAX_MEANS.
+fn repeat_mean(s: Mean) -> Mean
+    ensures { λ r. ⌜ r ≡ rounds meanTest nextMean maxMeans s ⌝ }
+{
+    let mut t = s;
+    let mut n: u32 = 0;
+    while n < MAX_MEANS {
+        if !mean_test(t) {
+            return t;
+        }
+        t = next_mean(t);
+        n += 1;
+    }
+    t
+}
+
+// K and E without the tests of their domain: what inner calls use.
+pub fn elliptic(m: f64) -> Complete
+    ensures { λ r. ⌜ r ≡ elliptic m ⌝ }
+{
+    let b = roots::root(1.0 - m);
+    let c = roots::root(m);
+    let s = repeat_mean(Mean {
+        a: 1.0,
+        b,
+        c,
+        sum: 0.5 * m,
+        weight: 0.5,
+    });
+    let k = FRAC_PI_2 / s.a;
+    Complete {
+        k,
+        e: k * (1.0 - s.sum),
+    }
+}
+
+// The complete elliptic integrals K(m) and E(m), for 0 ≤ m < 1: refused by 14 outside that domain.
+pub fn complete_elliptic(m: f64) -> CompleteIntegrals
+    ensures { λ r. ⌜ r ≡ completeElliptic m ⌝ }
+{
+    if 0.0 <= m {
+        if m < 1.0 {
+            return CompleteIntegrals::Values(elliptic(m));
+        }
+    }
+    CompleteIntegrals::Refused(Refusal::OutsideDomain)
+}
+
+// ---- cel
+
+// The first half of a round.
+fn first_half(s: Bulirsch) -> Bulirsch
+    ensures { λ r. ⌜ r ≡ firstHalf s ⌝ }
+{
+    let g = s.e / s.p;
+    Bulirsch {
+        kc: s.kc,
+        e: s.e,
+        m: s.m + s.kc,
+        previous: s.m,
+        p: s.p + g,
+        a: s.a + s.b / s.p,
+        b: 2.0 * (s.b + s.a * g),
+    }
+}
+
+// The second half.
+fn second_half(s: Bulirsch) -> Bulirsch
+    ensures { λ r. ⌜ r ≡ secondHalf s ⌝ }
+{
+    let k = 2.0 * roots::root(s.e);
+    Bulirsch {
+        kc: k,
+        e: k * s.m,
+        m: s.m,
+        previous: s.previous,
+        p: s.p,
+        a: s.a,
+        b: s.b,
+    }
+}
+
+fn turn(s: Bulirsch) -> Bulirsch
+    ensures { λ r. ⌜ r ≡ turn s ⌝ }
+{
+    first_half(second_half(s))
+}
+
+fn cel_test(s: Bulirsch) -> bool
+    ensures { λ r. ⌜ r ≡ celTest s ⌝ }
+{
+    !(doubles::abs(s.previous - s.kc) <= s.previous * 1e-15)
+}
+
+// The second half of a round and the first of the next while the test holds, at most MAX_TURNS.
+fn repeat_turn(s: Bulirsch) -> Bulirsch
+    ensures { λ r. ⌜ r ≡ rounds celTest turn maxTurns s ⌝ }
+{
+    let mut t = s;
+    let mut n: u32 = 0;
+    while n < MAX_TURNS {
+        if !cel_test(t) {
+            return t;
+        }
+        t = turn(t);
+        n += 1;
+    }
+    t
+}
+
+fn cel_end(s: Bulirsch) -> f64
+    ensures { λ r. ⌜ r ≡ celEnd s ⌝ }
+{
+    FRAC_PI_2 * (s.a * s.m + s.b) / (s.m * (s.m + s.p))
+}
+
+// cel without the tests of its domain: what inner calls use.
+pub fn cel_of(kc: f64, p: f64, a: f64, b: f64) -> f64
+    ensures { λ r. ⌜ r ≡ celOf kc p a b ⌝ }
+{
+    let k = doubles::abs(kc);
+    let sp = roots::root(p);
+    let first = first_half(Bulirsch {
+        kc: k,
+        e: k,
+        m: 1.0,
+        previous: 1.0,
+        p: sp,
+        a,
+        b: b / sp,
+    });
+    cel_end(repeat_turn(first))
+}
+
+fn all_finite(kc: f64, p: f64, a: f64, b: f64) -> bool
+    ensures { λ r. ⌜ r ≡ allFinite kc p a b ⌝ }
+{
+    if doubles::is_finite(kc) {
+        if doubles::is_finite(p) {
+            if doubles::is_finite(a) {
+                return doubles::is_finite(b);
+            }
+        }
+    }
+    false
+}
+
+// Bulirsch's cel(k_c, p, a, b), for finite arguments and p > 0: refused by 14 outside that domain.
+pub fn cel(kc: f64, p: f64, a: f64, b: f64) -> Integral
+    ensures { λ r. ⌜ r ≡ cel kc p a b ⌝ }
+{
+    if all_finite(kc, p, a, b) {
+        if 0.0 < p {
+            return Integral::Value(cel_of(kc, p, a, b));
+        }
+    }
+    Integral::Refused(Refusal::OutsideDomain)
+}
+
+// ---- the ring
+
+// The derivative by ρ near the axis, where u is R^2 + z^2.
+fn near_axis(rho: f64, r2: f64, z2: f64, u: f64) -> f64
+    ensures { λ r. ⌜ r ≡ nearAxis rho r2 z2 u ⌝ }
+{
+    let w = roots::root(u);
+    0.5 * rho * (r2 - 2.0 * z2) / (u * u * w)
+        - rho * rho * rho / 16.0 * (-24.0 * z2 * z2 + 72.0 * z2 * r2 - 9.0 * r2 * r2)
+            / (u * u * (u * u) * w)
+}
+
+// The derivative by ρ elsewhere.
+fn off_axis(radius: f64, rho: f64, s: f64, d: f64) -> f64
+    ensures { λ r. ⌜ r ≡ offAxis radius rho s d ⌝ }
+{
+    let kc = roots::root(d / s); // √(1 - m), without the subtraction near the wire
+    let w = roots::root(s);
+    -2.0 / (PI * (s * w)) * cel_of(kc, kc * kc, rho + radius, rho - radius)
+}
+
+// The derivative by ρ.
+fn by_rho(radius: f64, rho: f64, z: f64, s: f64, d: f64) -> f64
+    ensures { λ r. ⌜ r ≡ ∂ρ radius rho z s d ⌝ }
+{
+    let u = radius * radius + z * z;
+    if rho == 0.0 {
+        return 0.0;
+    }
+    if rho * rho < 9e-8 * u {
+        return near_axis(rho, radius * radius, z * z, u);
+    }
+    off_axis(radius, rho, s, d)
+}
+
+fn ring_at(radius: f64, rho: f64, z: f64, s: f64, d: f64, m: f64) -> RingAverage
+    ensures { λ r. ⌜ r ≡ ringAt radius rho z s d m ⌝ }
+{
+    let c = elliptic(m);
+    let w = roots::root(s);
+    RingAverage {
+        v: 2.0 / PI * c.k / w,
+        drho: by_rho(radius, rho, z, s, d),
+        dz: -2.0 / PI * z * c.e / (w * d),
+    }
+}
+
+// What refusal 14 asks.
+fn in_domain(radius: f64, rho: f64, d: f64, m: f64) -> bool
+    ensures { λ r. ⌜ r ≡ inDomain radius rho d m ⌝ }
+{
+    if 0.0 < radius {
+        if 0.0 <= rho {
+            if 0.0 < d {
+                return m < 1.0;
+            }
+        }
+    }
+    false
+}
+
+// The ring within the limits of refusal 3.
+fn ring_within(radius: f64, rho: f64, z: f64) -> RingAnswer
+    ensures { λ r. ⌜ r ≡ ringWithin radius rho z ⌝ }
+{
+    let s = (radius + rho) * (radius + rho) + z * z;
+    let d = (radius - rho) * (radius - rho) + z * z;
+    let m = 4.0 * radius * rho / s;
+    if in_domain(radius, rho, d, m) {
+        return RingAnswer::Value(ring_at(radius, rho, z, s, d, m));
+    }
+    RingAnswer::Refused(Refusal::OutsideDomain)
+}
+
+// The average of 1/r over a ring, seen from (ρ, z), and its gradient: refused by 3, and by 14 unless
+// radius > 0, rho ≥ 0, and d > 0 and m < 1 as computed.
+pub fn ring(radius: f64, rho: f64, z: f64) -> RingAnswer
+    ensures { λ r. ⌜ r ≡ ring radius rho z ⌝ }
+{
+    if doubles::within_limits(radius) {
+        if doubles::within_limits(rho) {
+            if doubles::within_limits(z) {
+                return ring_within(radius, rho, z);
+            }
+        }
+    }
+    RingAnswer::Refused(Refusal::OutOfLimits)
+}

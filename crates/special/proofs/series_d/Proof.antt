@@ -1,0 +1,12 @@
+-- `special::series_d` meets its contract. Assumes nothing.
+use Rattle.special.specs.Rd.{seriesD}
+use borrow.Author.Needs.{needs}
+use Rattle.special.proofs.series_d.Statement.{statement}
+use Rattle.special.proofs.series_d.Tie as tie
+
+returns : tie.Need-returns
+unfolding seriesD
+returns c = rw (← c .series .ensures)
+
+pub series-d-spec : {M : Type 1} → statement M
+series-d-spec = tie.close (tie.spec (λ c κs. search needs) returns)

@@ -1,0 +1,12 @@
+-- `special::series_f` meets its contract. Assumes nothing.
+use mathlib.Core.Path.{refl}
+use Rattle.special.specs.Rf.{seriesF}
+use Rattle.special.proofs.series_f.Statement.{statement}
+use Rattle.special.proofs.series_f.Tie as tie
+
+returns : tie.Need-returns
+unfolding seriesF
+returns c = refl
+
+pub series-f-spec : {M : Type 1} → statement M
+series-f-spec = tie.close (tie.spec returns)

@@ -1,0 +1,29 @@
+-- The public calls of R_F, R_D and R_J: refused by 14 outside their domains, and by 15 where a loop's test still holds after 64 rounds. Definitions only.
+use mathlib.Core.Bool.{Bool, not, _&&_, _||_, cond}
+use lib.Ieee.{Float, lt, le, eq}
+use lib.Ieee.Scale.{finite}
+use Rattle.doubles.specs.Constants.{0·0}
+use Rattle.refusals.specs.declared.Refusal.the-variants.{OutsideDomain}
+use Rattle.carlson.specs.declared.Integral.{Integral}
+use Rattle.carlson.specs.declared.Integral.the-variants.{Refused}
+use Rattle.special.specs.Rf.{rf}
+use Rattle.special.specs.Rd.{rd}
+use Rattle.special.specs.Rj.{rj}
+
+unfoldable pub finiteNotBelowZero : Float → Bool
+finiteNotBelowZero x = finite x && le 0·0 x
+
+unfoldable pub moreThanOneZero : Float → Float → Float → Bool
+moreThanOneZero x y z = cond (eq x 0·0) (eq y 0·0 || eq z 0·0) (eq y 0·0 && eq z 0·0)
+
+unfoldable pub inDomain : Float → Float → Float → Bool
+inDomain x y z = finiteNotBelowZero x && finiteNotBelowZero y && finiteNotBelowZero z && not (moreThanOneZero x y z)
+
+unfoldable pub carlsonRf : Float → Float → Float → Integral
+carlsonRf x y z = cond (inDomain x y z) (rf x y z) (Refused OutsideDomain)
+
+unfoldable pub carlsonRd : Float → Float → Float → Integral
+carlsonRd x y z = cond (inDomain x y z && lt 0·0 z) (rd x y z) (Refused OutsideDomain)
+
+unfoldable pub carlsonRj : Float → Float → Float → Float → Integral
+carlsonRj x y z p = cond (inDomain x y z && finite p) (rj x y z p) (Refused OutsideDomain)
