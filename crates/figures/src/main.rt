@@ -1,9 +1,9 @@
 // The worked figures of the Rust's documentation, as values from outside. Prints a line for each that
 // holds.
 use libc::STDOUT_FILENO;
+use newtonian::Field;
 use newtonian::Newtonian;
 use newtonian::Vector;
-use prism::Field;
 
 const PI: f64 = 3.141592653589793;
 

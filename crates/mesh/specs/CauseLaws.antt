@@ -12,14 +12,15 @@ use Rattle.doubles.specs.Constants.{0·0}
 use Rattle.refusals.specs.declared.Refusal.{Refusal}
 use Rattle.refusals.specs.declared.Refusal.the-variants.{Malformed, TooMany, TooShort, OutOfLimits, NoSuchVertex, Degenerate, Inverted}
 use Rattle.refusals.specs.declared.Cause.the-variants.{None}
-use Rattle.refusals.specs.Causes.{unless, firstOf}
+use Rattle.refusals.specs.Causes.{orElse, unless, firstOf}
 use Rattle.refusals.proofs.Causes.{holds, passes, each, from-each}
+use Rattle.refusals.proofs.Causes as causes
 use Rattle.lists.specs.Count.{Below}
 use Rattle.lists.proofs.Numbers.{both}
 use Rattle.orders.specs.Edges.{maxVertices, maxFaces}
 use Rattle.mesh.specs.Surface.{vertexCount, faceCount, Body, normal, isZero, volume}
 use Rattle.mesh.specs.Accepted.{Counted}
-use Rattle.mesh.specs.Check.{malformed, tooMany, tooShort, inLimits, outOfLimits, namesVertex, noSuchVertex, hasNormal, degenerateFace, inverted}
+use Rattle.mesh.specs.Check.{malformed, tooMany, tooShort, countCause, inLimits, outOfLimits, namesVertex, noSuchVertex, hasNormal, degenerateFace, inverted}
 
 -- counts within the limits and corners that name vertices: a body
 pub body : (v : List Float) (f : List ℕ) (n : ℕ) → Counted v f n → Below f (vertexCount v) → Body v f
@@ -67,6 +68,20 @@ module _ (v : List Float) (f : List ℕ) where
   pub short-none : (n : ℕ) → length f ≤ n → tooShort f n ≡ None
   unfolding tooShort
   short-none n l = passes (leb (length f) n) TooShort (le-leb (length f) n l)
+
+  -- 1, 2 and 12
+  pub none-count : (n : ℕ) → countCause v f n ≡ None → Counted v f n
+  unfolding countCause
+  none-count n e =
+      let a = causes.both (malformed v f) (orElse (tooMany v f) (tooShort f n)) e in
+      let b = causes.both (tooMany v f) (tooShort f n) (a .1) in
+      let p = none-malformed (a .0) in
+      let q = none-many (b .0) in
+      record { coordinates = p .0; corners = p .1; vertices = q .0; faces = q .1; room = none-short n (b .1) }
+
+  pub count-none : (n : ℕ) → Counted v f n → countCause v f n ≡ None
+  unfolding countCause
+  count-none n h = rw (malformed-none (h .coordinates) (h .corners), many-none (h .vertices) (h .faces), short-none n (h .room))
 
   -- 3
   pub none-limits : outOfLimits v ≡ None → (i : ℕ) → i < length v → inLimits v i ≡ true

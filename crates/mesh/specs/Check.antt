@@ -82,6 +82,10 @@ unfoldable pub meshCause : List Float → List ℕ → ℕ → Cause
 meshCause v f n =
     orElse (malformed v f) (orElse (tooMany v f) (orElse (tooShort f n) (orElse (outOfLimits v) (orElse (noSuchVertex (vertexCount v) f) (orElse (flippedEdge f (orderList f)) (orElse (openEdge f (orderList f)) (orElse (degenerateFace v f) (inverted v f))))))))
 
+-- the first three, for callers with more numbers to try at 3
+unfoldable pub countCause : List Float → List ℕ → ℕ → Cause
+countCause v f n = orElse (malformed v f) (orElse (tooMany v f) (tooShort f n))
+
 -- those from 4 on, for callers that try 1, 2, 12 and 3 themselves; and those from 5 on, with the order list at hand
 unfoldable pub surfaceCause : List Float → List ℕ → Cause
 surfaceCause v f = orElse (noSuchVertex (vertexCount v) f) (orElse (flippedEdge f (orderList f)) (orElse (openEdge f (orderList f)) (orElse (degenerateFace v f) (inverted v f))))

@@ -6,7 +6,7 @@ ghost use mathlib.Core.Path.{_≡_};
 ghost use lib.ListN.{length};
 ghost use Rattle.orders.specs.Order.{orderList};
 ghost use Rattle.mesh.specs.Surface.{Body, volume};
-ghost use Rattle.mesh.specs.Check.{orderCause, surfaceCause, meshCause, meshOf, checkMesh, workAfter};
+ghost use Rattle.mesh.specs.Check.{countCause, orderCause, surfaceCause, meshCause, meshOf, checkMesh, workAfter};
 ghost use Rattle.mesh.specs.Accepted.{Counted};
 use orders::edges::MAX_FACES;
 use orders::edges::MAX_VERTICES;
@@ -17,6 +17,28 @@ use refusals::Refusal;
 pub enum Mesh {
     Volume(f64),
     Refused(Refusal),
+}
+
+// The causes 1, 2 and 12, for a work list of room entries.
+pub fn count_cause(verts: &[f64], faces: &[u32], room: usize) -> Cause
+    ensures { λ r. ⌜ r ≡ countCause (now (verts .entry)) (now (faces .entry)) room ⌝ }
+{
+    if verts.len() % 3 != 0 {
+        return Cause::Refused(Refusal::Malformed);
+    }
+    if faces.len() % 3 != 0 {
+        return Cause::Refused(Refusal::Malformed);
+    }
+    if MAX_VERTICES < verts.len() / 3 {
+        return Cause::Refused(Refusal::TooMany);
+    }
+    if MAX_FACES < faces.len() / 3 {
+        return Cause::Refused(Refusal::TooMany);
+    }
+    if room < faces.len() {
+        return Cause::Refused(Refusal::TooShort);
+    }
+    Cause::None
 }
 
 // The causes 5 to 8, by the order list.
@@ -64,20 +86,9 @@ pub fn check_mesh(verts: &[f64], faces: &[u32], work: &mut [u32]) -> Mesh
     ensures { λ r. ⌜ r ≡ checkMesh (now (verts .entry)) (now (faces .entry)) (length (now (work .entry))) ⌝ }
     ensures { λ r. ⌜ now (work .exit) ≡ workAfter (meshCause (now (verts .entry)) (now (faces .entry)) (length (now (work .entry)))) (now (faces .entry)) (now (work .entry)) ⌝ }
 {
-    if verts.len() % 3 != 0 {
-        return Mesh::Refused(Refusal::Malformed);
-    }
-    if faces.len() % 3 != 0 {
-        return Mesh::Refused(Refusal::Malformed);
-    }
-    if MAX_VERTICES < verts.len() / 3 {
-        return Mesh::Refused(Refusal::TooMany);
-    }
-    if MAX_FACES < faces.len() / 3 {
-        return Mesh::Refused(Refusal::TooMany);
-    }
-    if work.len() < faces.len() {
-        return Mesh::Refused(Refusal::TooShort);
+    let counts = count_cause(verts, faces, work.len());
+    if let Cause::Refused(r) = counts {
+        return Mesh::Refused(r);
     }
     let numbers = scan::out_of_limits(verts);
     if let Cause::Refused(r) = numbers {

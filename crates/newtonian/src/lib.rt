@@ -1,6 +1,7 @@
-// The field record, potential, gradient and Hessian at unit Gρ, and vectors of three doubles.
+// The field record, potential, gradient and Hessian at unit Gρ; a field or its refusal; vectors of three doubles.
 ghost use mathlib.Core.Path.{_≡_};
-ghost use Rattle.newtonian.specs.Vectors.{difference, dot, cross, zeroField};
+ghost use Rattle.newtonian.specs.Vectors.{difference, dot, cross, addVectors, addFields, zeroField, vectorWithinLimits};
+use refusals::Refusal;
 
 pub struct Vector {
     pub x: f64,
@@ -19,6 +20,12 @@ pub struct Newtonian {
     pub potential: f64,
     pub gradient: Vector,
     pub hessian: Hessian,
+}
+
+// The field, or a refusal.
+pub enum Field {
+    At(Newtonian),
+    Refused(Refusal),
 }
 
 pub fn difference(a: Vector, b: Vector) -> Vector
@@ -47,6 +54,30 @@ pub fn cross(a: Vector, b: Vector) -> Vector
     }
 }
 
+fn add_vectors(a: Vector, b: Vector) -> Vector
+    ensures { λ r. ⌜ r ≡ addVectors a b ⌝ }
+{
+    Vector {
+        x: a.x + b.x,
+        y: a.y + b.y,
+        z: a.z + b.z,
+    }
+}
+
+pub fn add_fields(f: Newtonian, g: Newtonian) -> Newtonian
+    ensures { λ r. ⌜ r ≡ addFields f g ⌝ }
+{
+    Newtonian {
+        potential: f.potential + g.potential,
+        gradient: add_vectors(f.gradient, g.gradient),
+        hessian: Hessian {
+            x: add_vectors(f.hessian.x, g.hessian.x),
+            y: add_vectors(f.hessian.y, g.hessian.y),
+            z: add_vectors(f.hessian.z, g.hessian.z),
+        },
+    }
+}
+
 // Where a sum of fields starts.
 pub fn zero_field() -> Newtonian
     ensures { λ r. ⌜ r ≡ zeroField ⌝ }
@@ -61,4 +92,17 @@ pub fn zero_field() -> Newtonian
         gradient: o,
         hessian: Hessian { x: o, y: o, z: o },
     }
+}
+
+// Refusal 3's test of a vector.
+pub fn vector_within_limits(v: Vector) -> bool
+    ensures { λ r. ⌜ r ≡ vectorWithinLimits v ⌝ }
+{
+    if doubles::within_limits(v.x) {
+        if doubles::within_limits(v.y) {
+            return doubles::within_limits(v.z);
+        }
+        return false;
+    }
+    false
 }

@@ -3,43 +3,22 @@
 use Prim.Native.Nat.{ℕ, zero, suc}
 use mathlib.Core.Bool.{Bool, _&&_}
 use lib.Ieee.{Float, le}
-use Rattle.doubles.specs.Rounded.{_⊕_, _⊖_}
+use Rattle.doubles.specs.Rounded.{_⊖_}
 use Rattle.doubles.specs.Constants.{10⁻⁶}
-use Rattle.doubles.specs.Magnitude.{withinLimits}
 use Rattle.refusals.specs.Causes.{orElse, unless}
 use Rattle.refusals.specs.Answer.{Answer, value, refused, orAnswer}
 use Rattle.refusals.specs.declared.Cause.{Cause}
 use Rattle.refusals.specs.declared.Refusal.the-variants.{OutOfLimits, TooThin, TooDeep}
+use Rattle.newtonian.specs.Vectors.{addFields, vectorWithinLimits}
 use Rattle.newtonian.specs.declared.Vector.{Vector}
 use Rattle.newtonian.specs.declared.Newtonian.{Newtonian}
 use Rattle.prism.specs.declared.AxisRule.{AxisRule}
 use Rattle.prism.specs.declared.AxisRule.the-variants.{LastOfEquals}
 use Rattle.prism.specs.declared.Piece.{Piece}
 use Rattle.prism.specs.declared.Piece.the-variants.{Whole, Halves}
-use Rattle.prism.specs.declared.Field.{Field}
-use Rattle.prism.specs.declared.Field.the-variants.{At, Refused}
 use Rattle.prism.specs.Bisection.{pieceOf}
 
--- the answer of each case of `Field`
-abbrev pub answerOf : Field → Answer Newtonian
-answerOf (At f) = value f
-answerOf (Refused r) = refused r
-
 -- ---- the pieces
-
-abbrev pub addVectors : Vector → Vector → Vector
-addVectors a b = record { x = a .x ⊕ b .x; y = a .y ⊕ b .y; z = a .z ⊕ b .z }
-
-unfoldable pub addFields : Newtonian → Newtonian → Newtonian
-addFields f g = record {
-  potential = f .potential ⊕ g .potential;
-  gradient = addVectors (f .gradient) (g .gradient);
-  hessian = record {
-    x = addVectors (f .hessian .x) (g .hessian .x);
-    y = addVectors (f .hessian .y) (g .hessian .y);
-    z = addVectors (f .hessian .z) (g .hessian .z);
-  };
-}
 
 -- the sum of the lower and the upper half's fields, or the first's refusal
 unfoldable pub join : Answer Newtonian → Answer Newtonian → Answer Newtonian
@@ -66,10 +45,6 @@ unfoldable pub prismAt : AxisRule → ℕ → Vector → Vector → Vector → A
 prismAt rule i p lo hi = pieces rule i maxBisections p lo hi
 
 -- ---- the public call
-
--- refusal 3's test of a vector
-unfoldable pub vectorWithinLimits : Vector → Bool
-vectorWithinLimits v = withinLimits (v .x) && (withinLimits (v .y) && withinLimits (v .z))
 
 unfoldable pub numbersWithinLimits : Vector → Vector → Vector → Bool
 numbersWithinLimits p lo hi = vectorWithinLimits p && (vectorWithinLimits lo && vectorWithinLimits hi)

@@ -1,14 +1,17 @@
 // The field of a rectangular prism: by cubature outside it where that is affordable, else by corner sums, with bisection
 // of a long prism where those are too rough.
-use newtonian::Hessian;
+use newtonian::Field;
 use newtonian::Newtonian;
 use newtonian::Vector;
+use newtonian::add_fields;
+use newtonian::vector_within_limits;
 use refusals::Cause;
 use refusals::Refusal;
 ghost use mathlib.Core.Path.{_≡_};
 ghost use mathlib.Core.Bool.{cond};
+ghost use Rattle.newtonian.specs.Field.{answerOf};
 ghost use Rattle.prism.specs.Bisection.{squaredOutside, distance, ceiling, order, affordable, longest, shortest, along, with, cornerDistance, farthest, tooRough, bisected, near, outside, pieceOf};
-ghost use Rattle.prism.specs.Prism.{answerOf, addVectors, addFields, join, pieces, prismAt, vectorWithinLimits, numbersWithinLimits, sideWithinLimits, sidesWithinLimits, causeOf, prism};
+ghost use Rattle.prism.specs.Prism.{join, pieces, prismAt, numbersWithinLimits, sideWithinLimits, sidesWithinLimits, causeOf, prism};
 
 // The rule for the longest axis where several are equally long.
 pub enum AxisRule {
@@ -26,12 +29,6 @@ pub enum Axis {
 pub enum Piece {
     Whole(Newtonian),
     Halves(Vector, Vector),
-}
-
-// The field, or a refusal.
-pub enum Field {
-    At(Newtonian),
-    Refused(Refusal),
 }
 
 const EPSILON: f64 = 2.220446049250313e-16;
@@ -237,30 +234,6 @@ fn piece_of(rule: AxisRule, p: Vector, lo: Vector, hi: Vector) -> Piece
     Piece::Whole(corner_sums::corner_sums(p, lo, hi))
 }
 
-fn add_vectors(a: Vector, b: Vector) -> Vector
-    ensures { λ r. ⌜ r ≡ addVectors a b ⌝ }
-{
-    Vector {
-        x: a.x + b.x,
-        y: a.y + b.y,
-        z: a.z + b.z,
-    }
-}
-
-fn add_fields(f: Newtonian, g: Newtonian) -> Newtonian
-    ensures { λ r. ⌜ r ≡ addFields f g ⌝ }
-{
-    Newtonian {
-        potential: f.potential + g.potential,
-        gradient: add_vectors(f.gradient, g.gradient),
-        hessian: Hessian {
-            x: add_vectors(f.hessian.x, g.hessian.x),
-            y: add_vectors(f.hessian.y, g.hessian.y),
-            z: add_vectors(f.hessian.z, g.hessian.z),
-        },
-    }
-}
-
 fn join(a: Field, b: Field) -> Field
     ensures { λ r. ⌜ answerOf r ≡ join (answerOf a) (answerOf b) ⌝ }
 {
@@ -296,18 +269,6 @@ pub fn prism_at(rule: AxisRule, i: u32, p: Vector, lo: Vector, hi: Vector) -> Fi
     ensures { λ r. ⌜ answerOf r ≡ prismAt rule i p lo hi ⌝ }
 {
     pieces(rule, i, MAX_BISECTIONS, p, lo, hi)
-}
-
-fn vector_within_limits(v: Vector) -> bool
-    ensures { λ r. ⌜ r ≡ vectorWithinLimits v ⌝ }
-{
-    if doubles::within_limits(v.x) {
-        if doubles::within_limits(v.y) {
-            return doubles::within_limits(v.z);
-        }
-        return false;
-    }
-    false
 }
 
 fn numbers_within_limits(p: Vector, lo: Vector, hi: Vector) -> bool

@@ -4,9 +4,9 @@
 ghost use Prim.Native.Nat.{_≤_};
 use libc::STDIN_FILENO;
 use libc::STDOUT_FILENO;
+use newtonian::Field;
 use newtonian::Newtonian;
 use newtonian::Vector;
-use prism::Field;
 use replay::Word;
 
 fn word(s: &[u8], k: usize) -> u64 {

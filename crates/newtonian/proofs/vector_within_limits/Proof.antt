@@ -1,8 +1,8 @@
--- `prism::vector_within_limits` meets its contract. Assumes nothing.
+-- `newtonian::vector_within_limits` meets its contract. Assumes nothing.
 use borrow.Author.Needs.{needs}
-use Rattle.prism.specs.Prism.{vectorWithinLimits}
-use Rattle.prism.proofs.vector_within_limits.Statement.{statement}
-use Rattle.prism.proofs.vector_within_limits.Tie as tie
+use Rattle.newtonian.specs.Vectors.{vectorWithinLimits}
+use Rattle.newtonian.proofs.vector_within_limits.Statement.{statement}
+use Rattle.newtonian.proofs.vector_within_limits.Tie as tie
 
 returns : tie.Need-returns
 unfolding vectorWithinLimits

@@ -1,8 +1,8 @@
--- `prism::add_fields` meets its contract. Assumes nothing.
+-- `newtonian::add_fields` meets its contract. Assumes nothing.
 use borrow.Author.Needs.{needs}
-use Rattle.prism.specs.Prism.{addFields}
-use Rattle.prism.proofs.add_fields.Statement.{statement}
-use Rattle.prism.proofs.add_fields.Tie as tie
+use Rattle.newtonian.specs.Vectors.{addFields}
+use Rattle.newtonian.proofs.add_fields.Statement.{statement}
+use Rattle.newtonian.proofs.add_fields.Tie as tie
 
 returns : tie.Need-returns
 unfolding addFields
