@@ -107,6 +107,89 @@ def special():
     return [(name, a) for name, args in calls for a in args]
 
 
+def anomalies():
+    """body, total_field, sphere, cylinder, ellipsoid_factors, magnetisation and koenigsberger: the call's number, sixteen arguments (0 where there are fewer), three numbers of the
+    answer (0 likewise)."""
+    r = random.Random(1826)
+    limit = bits(1e9)
+    within = [0, TOP, 1, TOP | 1] + [bits(x) for x in (1e-300, 1e-162, 1e-8, 0.5, 1.0, -1.0, 2.0, 3.0, -1e8)] + [limit, TOP | limit]
+    beyond = [limit + 1, TOP | limit + 1, INFINITY, TOP | INFINITY, 0x7FF8000000000000]
+
+    def plain(n):
+        return [bits(r.uniform(-3, 3) * r.choice((1.0, 1.0, 100.0))) for _ in range(n)]
+
+    def spread(n):
+        return [log_uniform(r, -30, 29) | TOP * r.randrange(2) for _ in range(n)]
+
+    def whole(n):
+        return [bits(float(r.randrange(-3, 4))) | TOP * (r.randrange(8) == 0) for _ in range(n)]
+
+    def odd(n):
+        return [r.choice(within) for _ in range(n)]
+
+    def refused(n, lengths=()):
+        """Every place with a number beyond the limits; the numbers at `lengths` are above zero otherwise."""
+        for k in range(n):
+            for b in beyond:
+                a = [x & TOP - 1 if i in lengths else x for i, x in enumerate(plain(n))]
+                a[k] = b
+                yield a
+
+    def common(n, lengths=()):
+        asked = list(refused(n, lengths)) + [kind(n) for kind in (plain, spread, whole, odd) for _ in range(110)]
+        for a in asked:
+            for i in lengths:
+                if r.randrange(6):
+                    a[i] &= TOP - 1
+        return asked
+
+    body = common(12)
+    # traceless outside, of trace -4π inside
+    for _ in range(200):
+        xx, yy, xy, xz, yz = (r.uniform(-1, 1) * 10.0 ** r.uniform(-8, 2) for _ in range(5))
+        zz = r.choice((0.0, -12.566370614359172)) - xx - yy
+        body.append([bits(x) for x in (xx, xy, xz, xy, yy, yz, xz, yz, zz)] + plain(3))
+    # sums of zeros of either sign
+    body += [[TOP * r.randrange(2) for _ in range(9)] + [r.choice((0, TOP, bits(1.0), bits(-1.0))) for _ in range(3)] for _ in range(60)]
+    total = common(6)
+    total += [[bits(x) for x in f] + [bits(r.gauss(0, 1) * 10.0 ** r.uniform(-12, -5)) for _ in range(3)] for f in ((0.0, 0.0, 5e-5), (2e-5, -1e-6, 4.5e-5)) for _ in range(100)]
+    total += [[0, 0, 0, bits(3.0), bits(4.0), 0], [TOP, 0, 0, 0, TOP, 0]]
+    sphere = common(10, (6,))
+    # on the surface and beside it, inside and outside
+    for d in ((3.0, 4.0, 0.0), (2.0, 3.0, 6.0), (0.0, 0.0, 5.0), (0.0, 0.0, 0.0)):
+        a = sum(x * x for x in d) ** 0.5
+        sphere += [[bits(x) for x in d] + [0, 0, 0, b] + plain(3) for b in near(bits(a or 1.0)) for _ in range(3)]
+    sphere += [plain(6) + [bits(2.0 ** r.uniform(-3, 6))] + plain(3) for _ in range(200)]
+    cylinder = common(13, (9,))
+    # axes whose computed length is zero, or just not
+    for u in ((0, 0, 0), (TOP, TOP, TOP), (1, 0, 1), (bits(1e-162), 0, 0), (bits(1e-161), 0, 0), (0, bits(-1.5e-162), 0), (bits(1e9), bits(1e9), bits(-1e9))):
+        cylinder += [plain(6) + list(u) + [bits(1.5)] + plain(3) for _ in range(8)]
+    # on the surface and beside it, inside, and on the axis
+    for p in ((3.0, 4.0, 7.0), (0.0, 5.0, -2.0), (0.0, 0.0, 9.0), (1.0, 1.0, 0.0)):
+        cylinder += [[bits(x) for x in p] + [0, 0, 0, 0, 0, bits(r.choice((1.0, -2.0)))] + [b] + plain(3) for b in near(bits(5.0)) for _ in range(3)]
+    cylinder += [plain(9) + [bits(2.0 ** r.uniform(-3, 6))] + plain(3) for _ in range(200)]
+    factors = common(3, (0, 1, 2))
+    factors += [[bits(r.uniform(0.1, 10.0)) for _ in range(3)] for _ in range(250)] + [[log_uniform(r, -29, 29) for _ in range(3)] for _ in range(150)]
+    factors += [[log_uniform(r, -1074, 29) for _ in range(3)] for _ in range(150)]
+    for a in (1.0, 2.0, 100.0, 1e9, 1e-5, 1e-150, 1e-160, 1e-170):
+        factors += [[bits(x) for x in t] for t in ((a, 1.0, 1.0), (a, a, 1.0), (a, a, a), (1.0, a, 1.0), (1.0, a, a))]
+    magnetisation = common(16)
+    unit = [bits(1.0), 0, 0, 0, bits(1.0), 0, 0, 0, bits(1.0)]
+    # factors on the diagonal, equal pivots, systems without a solution (a NaN becomes a pivot)
+    magnetisation += [[bits(r.uniform(0, 10))] + plain(6) + [bits(r.random()) if i % 4 == 0 else 0 for i in range(9)] for _ in range(100)]
+    magnetisation += [[bits(-1.0)] + plain(6) + unit for _ in range(10)]
+    magnetisation += [[bits(1.0)] + whole(6) + [bits(float(r.randrange(-2, 2))) for _ in range(9)] for _ in range(300)]
+    koenigsberger = common(7)
+    koenigsberger += [plain(3) + [bits(r.uniform(0, 0.1))] + plain(3) for _ in range(100)]
+    calls = [("body", body), ("total_field", total), ("sphere", sphere), ("cylinder", cylinder), ("ellipsoid_factors", factors), ("magnetisation", magnetisation), ("koenigsberger", koenigsberger)]
+    return [(name, tuple(a)) for name, asked in calls for a in asked]
+
+
+# to add: LISTS["anomalies"] = anomalies; to CALLS:
+#     "anomalies": ({"body": 1, "total_field": 2, "sphere": 3, "cylinder": 4, "ellipsoid_factors": 5, "magnetisation": 6, "koenigsberger": 7}, 16),
+# to ANSWERS: | {name: 3 for name in CALLS["anomalies"][0]}
+
+
 # ---- meshes: a list of vertices, a list of faces, the length of work
 
 TETRAHEDRON = ([(0, 0, 0), (1, 0, 0), (0, 1, 0), (0, 0, 1)], [(0, 2, 1), (0, 1, 3), (0, 3, 2), (1, 2, 3)])
@@ -305,16 +388,17 @@ def prisms(reference):
     return [("prism", c) for c in cases + orders_met(reference, r)]
 
 
-LISTS = {"roots": roots, "carlson": carlson, "special": special}
+LISTS = {"roots": roots, "carlson": carlson, "special": special, "anomalies": anomalies}
 # for a list of several calls: each call's number, and how many arguments a line has
 CALLS = {
     "carlson": ({"rc": 1, "ln": 2, "atan": 3, "atan2": 4}, 2),
     "special": ({"rf": 1, "rd": 2, "rj": 3, "complete_elliptic": 4, "cel": 5, "ring": 6}, 4),
+    "anomalies": ({"body": 1, "total_field": 2, "sphere": 3, "cylinder": 4, "ellipsoid_factors": 5, "magnetisation": 6, "koenigsberger": 7}, 16),
 }
 
 
 # how many numbers an answer has on its line, where more than one
-ANSWERS = {"prism": 13} | {name: 3 for name in CALLS["special"][0]}
+ANSWERS = {"prism": 13} | {name: 3 for name in CALLS["special"][0]} | {name: 3 for name in CALLS["anomalies"][0]}
 
 
 def answers(reference, requests, calls, width):

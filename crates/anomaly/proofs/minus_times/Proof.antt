@@ -1,0 +1,12 @@
+-- `anomaly::minus_times` meets its contract. Assumes nothing.
+use mathlib.Core.Path.{refl}
+use Rattle.anomaly.specs.Matrices.{minusTimes}
+use Rattle.anomaly.proofs.minus_times.Statement.{statement}
+use Rattle.anomaly.proofs.minus_times.Tie as tie
+
+returns : tie.Need-returns
+unfolding minusTimes
+returns c = refl
+
+pub minus-times-spec : {M : Type 1} → statement M
+minus-times-spec = tie.close (tie.spec returns)

@@ -1,0 +1,12 @@
+-- `anomaly::times` meets its contract. Assumes nothing.
+use mathlib.Core.Path.{refl}
+use Rattle.anomaly.specs.Matrices.{times}
+use Rattle.anomaly.proofs.times.Statement.{statement}
+use Rattle.anomaly.proofs.times.Tie as tie
+
+returns : tie.Need-returns
+unfolding times
+returns c = refl
+
+pub times-spec : {M : Type 1} → statement M
+times-spec = tie.close (tie.spec returns)

@@ -1,0 +1,27 @@
+-- `linalg::gauss` meets its contract. Assumes nothing.
+use borrow.Author.Needs.{needs}
+use Rattle.linalg.specs.Gauss.{gauss}
+use Rattle.linalg.proofs.gauss.Statement.{statement}
+use Rattle.linalg.proofs.gauss.Tie as tie
+
+returns : tie.Need-returns
+unfolding gauss
+returns c =
+    rw (
+      ← c .before .before .before .before .pivot-x .ensures,
+      ← c .before .before .before .eliminate-x .ensures,
+      ← c .before .before .pivot-y .ensures,
+      ← c .before .eliminate-y .ensures,
+      ← c .back-substituted .ensures,
+    )
+
+pub gauss-spec : {M : Type 1} → statement M
+gauss-spec =
+    tie.close
+    (tie.spec
+    (λ c κs. search needs)
+    (λ c κs. search needs)
+    (λ c κs. search needs)
+    (λ c κs. search needs)
+    (λ c κs. search needs)
+    returns)

@@ -1,0 +1,3 @@
+-- Linear equations.
+pub mod Gauss
+pub mod WorkedExamples
