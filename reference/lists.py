@@ -5,6 +5,7 @@ REFERENCE is the program that build.sh makes. A list is text: on each line the a
 digits, with one byte after it. A NaN is 7ff8000000000000, and an answer `refused N` is 7ff0000000000000 + N, which no answer has otherwise.
 The requests are made from fixed seeds, so a list is the same each time.
 """
+import math
 import random
 import struct
 import subprocess
@@ -388,6 +389,137 @@ def prisms(reference):
     return [("prism", c) for c in cases + orders_met(reference, r)]
 
 
+# ---- polyhedra: a station, a list of vertices, a list of faces, the length of work
+
+
+def fan(n, tilt=0.0):
+    """A pyramid over a regular polygon of n sides whose base is a fan about its middle, so that n edges meet there, all in one plane unless tilted; vertex 0 is the middle."""
+    verts = [(0.0, 0.0, -tilt)] + [(math.cos(2 * math.pi * i / n), math.sin(2 * math.pi * i / n), 0.0) for i in range(n)] + [(0.1, 0.2, 1.5)]
+    ring = [(1 + i, 1 + (i + 1) % n) for i in range(n)]
+    return verts, [(0, b, a) for a, b in ring] + [(a, b, n + 1) for a, b in ring]
+
+
+def shuffled(r, verts, faces, unused=0):
+    """The same body with vertices and faces in another order, corners turned, and vertices that no face uses."""
+    verts = list(verts) + [tuple(r.uniform(-1e3, 1e3) for _ in range(3)) for _ in range(unused)]
+    order = list(range(len(verts)))
+    r.shuffle(order)
+    place = {old: new for new, old in enumerate(order)}
+    faces = [tuple(place[i] for i in f[k:] + f[:k]) for f in faces for k in [r.randrange(3)]]
+    r.shuffle(faces)
+    return [verts[i] for i in order], faces
+
+
+def at(verts, face, weights):
+    return tuple(sum(w * verts[i][k] for i, w in zip(face, weights)) for k in range(3))
+
+
+def mean_and_radius(verts, faces):
+    """Of the used vertices, up to roundings."""
+    used = sorted({i for f in faces for i in f})
+    c = [sum(verts[i][k] for i in used) / len(used) for k in range(3)]
+    return c, max(math.dist(verts[i], c) for i in used)
+
+
+def stations(r, verts, faces):
+    """Where a station can lie: inside and outside, on faces and in their planes, on edges and their lines, at vertices, and about five radii from the centroid."""
+    c, radius = mean_and_radius(verts, faces)
+    f = lambda: r.choice(faces)
+    u = [r.gauss(0, 1) for _ in range(3)]
+    n = math.hypot(*u)
+    beyond = lambda d: tuple(a + x / n * d * radius for a, x in zip(c, u))
+    return [
+        tuple(c),
+        tuple(a + r.uniform(-0.4, 0.4) * radius for a in c),
+        tuple(a + r.uniform(-2, 2) * radius for a in c),
+        at(verts, f(), (0.25, 0.25, 0.5)),
+        at(verts, f(), (0.5, 0.5, 0.0)),
+        at(verts, f(), (1.5, -0.5, 0.0)),
+        at(verts, f(), (1.5, 0.25, -0.75)),
+        verts[f()[0]],
+        beyond(r.uniform(4.9, 5.1)),
+        beyond(5.0 * (1 + r.choice((-1, 1)) * 2.0 ** -r.randrange(40, 53))),
+        beyond(2.0 ** r.uniform(2.4, 12)),
+    ]
+
+
+def hand_over(reference):
+    """T from (4, ¼, ¼) has the edge and face sums, from (5, ¼, ¼) the tetrahedra; in each case the other differs."""
+    v, f = TETRAHEDRON
+    body = "4 4 %s %s" % (" ".join("%016x" % bits(float(x)) for p in v for x in p), " ".join(str(i) for t in f for i in t))
+    asked = []
+    for x in (4.0, 5.0):
+        p = " ".join("%016x" % bits(a) for a in (x, 0.25, 0.25))
+        asked += ["polyhedron %s %s" % (p, body), "edge_face_sums %s %s" % (p, body), "tetrahedra %s %s %s" % (p, body, " ".join(["%016x" % bits(0.25)] * 3))]
+    out = subprocess.run([reference], input="\n".join(asked) + "\n", capture_output=True, text=True, check=True).stdout.splitlines()
+    assert out[0] == out[1] != out[2] and out[3] == out[5] != out[4]
+
+
+def polyhedra(reference):
+    """Each line: the lengths of the vertex list, the face list and work; the station; the two lists; thirteen numbers, or a refusal with its two values; work afterwards."""
+    r = random.Random(1997)
+    hand_over(reference)
+    flat = lambda rows: [x for row in rows for x in row]
+    cases = [((x, 0.25, 0.25), *TETRAHEDRON, 0) for x in (4.0, 5.0)]
+    # closed bodies, with every kind of station; those with faces of a cube have inner diagonals
+    for k in range(24):
+        body = (TETRAHEDRON, OCTAHEDRON, CUBE)[k % 3] if k < 12 else closed_mesh(r)
+        body = shuffled(r, *body, unused=r.choice((0, 0, 1, 3)))
+        cases += [(p, *body, r.choice((0, 0, 2))) for p in stations(r, *body)]
+    for p in ((0.5, 0.5, 0.0), (0.25, 0.75, 1.0), (0.5, 0.5, 1.0), (1.0, 0.5, 0.5), (0.0, 0.0, 0.5), (1.0, 1.0, 1.0), (2.0, 0.5, 0.0), (2.0, 2.0, 2.0)):
+        cases.append((p, *CUBE, 0))
+    # so many edges through the station: at the middle of a flat fan, at that of a tilted one, and at the top
+    for n in (24, 25, 64, 65):
+        for tilt in (0.0, 0.25):
+            v, f = fan(n, tilt)
+            cases += [((0.0, 0.0, -tilt), v, f, 0), ((0.1, 0.2, 1.5), v, f, 0)]
+        v, f = shuffled(r, *fan(n), unused=1)
+        cases += [((0.0, 0.0, 0.0), v, f, 1), ((0.1, 0.05, 0.0), v, f, 0)]
+    # every refusal: of the station, of a damaged mesh, and both at once
+    bad = (1000000000.0000001, -1000000000.0000001, float("inf"), -float("inf"), float("nan"))
+    for k, x in enumerate(bad + (1e9, -1e9)):
+        p = [0.25, 0.5, 2.0]
+        p[k % 3] = x
+        cases += [(tuple(p), *CUBE, 0), (tuple(p), CUBE[0], CUBE[1][1:], 0), (tuple(p), CUBE[0], [(0, 1, 99)], 0), (tuple(p), *CUBE, -1)]
+    v, f = TETRAHEDRON
+    cases += [((1, 1, 1), v, g, n) for g, n in (([(a, c, b) for a, b, c in f], 0), (f[:3], 0), (f[:3] + [(1, 3, 2)], 1), ([(0, 0, 1)], 0), ([], 0), ([], 3))]
+    while len(cases) < 460:
+        body = damaged(r, *closed_mesh(r))
+        cases.append((tuple(r.uniform(-3, 3) for _ in range(3)) if r.randrange(8) else (0.0, 2e9, 0.0), *body, r.choice((0, 0, 0, 1, 5, -1 if body[1] else 0))))
+    cases = [(p, flat(v), flat(f), len(f) * 3 + more) for p, v, f, more in cases]
+    cases += [(p, v[:len(v) - a], f[:len(f) - b], n) for p, v, f, n in cases[:3] for a, b in ((1, 0), (2, 0), (0, 1), (0, 2), (1, 1))]
+    asked, early = [], {}
+    for k, (p, v, f, n) in enumerate(cases):
+        if len(v) % 3 or len(f) % 3:
+            early[k] = [1]
+        elif n < len(f):
+            early[k] = [12]
+        else:
+            body = "%d %d %s %s" % (len(v) // 3, len(f) // 3, " ".join("%016x" % bits(float(x)) for x in v), " ".join(map(str, f)))
+            asked += ["polyhedron %s %s" % (" ".join("%016x" % bits(float(x)) for x in p), body), "order_list " + body]
+    out = iter(subprocess.run([reference], input="\n".join(asked) + "\n", capture_output=True, text=True, check=True).stdout.splitlines())
+    met = set()
+    for k, (p, v, f, n) in enumerate(cases):
+        work = [WORK + i for i in range(n)]
+        number = 0
+        if k in early:
+            number, answer = early[k][0], []
+        else:
+            kind, *words = next(out).split()
+            order = next(out).split()
+            if kind == "refused":
+                number, *answer = [int(w) for w in words]
+            else:
+                assert kind == "ok", words
+                answer = [0x7FF8000000000000 if w == "nan" else int(w, 16) for w in words]
+            if number in (0, 5, 6, 7, 8, 11):
+                work[:len(f)] = [int(w) for w in order[1:]]
+        met.add(number)
+        answer = answer if number == 0 else ([INFINITY + number] + answer + [0] * 13)[:13]
+        yield ["%016x" % w for w in [len(v), len(f), n] + [bits(float(x)) for x in p] + [bits(float(x)) for x in v] + list(f) + answer + work]
+    assert met == {0, 1, 3, 4, 5, 6, 7, 8, 11, 12}
+
+
 LISTS = {"roots": roots, "carlson": carlson, "special": special, "anomalies": anomalies}
 # for a list of several calls: each call's number, and how many arguments a line has
 CALLS = {
@@ -421,6 +553,8 @@ if __name__ == "__main__":
     reference, name = sys.argv[1:]
     if name == "meshes":
         lines = meshes(reference)
+    elif name == "polyhedra":
+        lines = polyhedra(reference)
     elif name == "prisms":
         lines = answers(reference, prisms(reference), {}, 0)
     else:

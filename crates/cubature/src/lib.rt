@@ -28,7 +28,7 @@ fn row_terms(t: Vector, w: f64, u: f64, d: Vector, delta: Vector, q: f64) -> Vec
     }
 }
 
-fn add_point(w: f64, d: Vector, f: Newtonian) -> Newtonian
+pub fn add_point(w: f64, d: Vector, f: Newtonian) -> Newtonian
     ensures { λ r. ⌜ r ≡ addPoint w d f ⌝ }
 {
     let r2 = newtonian::dot(d, d);

@@ -1,0 +1,24 @@
+-- `edge_face_sums::edge_face_sums` meets its contract: the count says whether there are too many edges. Assumes nothing.
+use native.Mathlib.Omega.{arith}
+use borrow.Author.Needs.{needs}
+use denote.Ref.{now}
+use Rattle.edge_face_sums.proofs.Carrying.{not-too-many, too-many}
+use Rattle.edge_face_sums.specs.EdgeFaceSums.{sumsOf}
+use Rattle.edge_face_sums.proofs.edge_face_sums.Statement.{statement}
+use Rattle.edge_face_sums.proofs.edge_face_sums.Tie as tie
+
+returns : tie.Need-returns
+returns c =
+    let a = c .before .before .before .before .before .before .args in
+    let w = c .before .add-triangles in
+    too-many (a .i) (a .p) (now (a .verts)) (now (a .faces)) (w .last .0) (w .last .1 .0) (w .result) (w .ensures .1) (omega (arith, c .if1 .taken))
+
+returns-2 : tie.Need-returns-2
+returns-2 c =
+    let a = c .before .before .before .before .before .before .before .before .before .before .before .args in
+    let w = c .before .before .before .before .before .before .add-triangles in
+    not-too-many (a .i) (a .p) (now (a .verts)) (now (a .faces)) (w .last .0) (w .last .1 .0) (w .result) (w .ensures .1) (omega (arith, c .before .before .before .before .before .if1 .left)) (c .symmetric .result)
+    (simp (c .symmetric .ensures, c .before .add-infinite .ensures (sumsOf (a .p) (now (a .verts)) (now (a .faces)) .edges) (w .last .0) (w .ensures .1 .edges)))
+
+pub edge-face-sums-spec : {M : Type 1} → statement M
+edge-face-sums-spec = tie.close (tie.spec (λ c κs. search needs) returns (λ c κs. search needs) (λ c κs. search needs) returns-2)

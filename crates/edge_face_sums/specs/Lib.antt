@@ -1,0 +1,3 @@
+-- The field of a polyhedron near it.
+pub mod EdgeFaceSums
+pub mod Carried

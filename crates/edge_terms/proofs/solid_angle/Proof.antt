@@ -1,0 +1,16 @@
+-- `edge_terms::solid_angle` meets its contract. Assumes nothing.
+use borrow.Author.Needs.{needs}
+use Rattle.edge_terms.specs.SolidAngle.{solidAngle}
+use Rattle.edge_terms.proofs.solid_angle.Statement.{statement}
+use Rattle.edge_terms.proofs.solid_angle.Tie as tie
+
+returns : tie.Need-returns
+unfolding solidAngle
+returns c = simp (c .winding-angle3 .ensures, c .before .winding-angle2 .ensures, c .before .before .winding-angle .ensures, c .before .before .before .if1 .taken, ← c .before .before .before .before .dot .ensures, ← c .before .before .before .before .before .cross .ensures)
+
+returns-2 : tie.Need-returns-2
+unfolding solidAngle
+returns-2 c = simp (c .atan2 .ensures, c .before .before .before .before .before .before .before .dot4 .ensures, c .before .before .before .before .before .before .before .before .dot3 .ensures, c .before .before .before .before .before .before .before .before .before .dot2 .ensures, c .before .before .before .before .before .before .before .before .before .before .if1 .left, ← c .before .before .before .before .before .before .before .before .before .before .before .dot .ensures, ← c .before .before .before .before .before .before .before .before .before .before .before .before .cross .ensures)
+
+pub solid-angle-spec : {M : Type 1} → statement M
+solid-angle-spec = tie.close (tie.spec (λ c κs. search needs) (λ c κs. search needs) (λ c κs. search needs) (λ c κs. search needs) (λ c κs. search needs) returns (λ c κs. search needs) (λ c κs. search needs) (λ c κs. search needs) (λ c κs. search needs) returns-2)

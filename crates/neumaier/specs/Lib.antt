@@ -1,0 +1,2 @@
+-- Neumaier's compensated summation of fields.
+pub mod Neumaier

@@ -1,0 +1,3 @@
+-- Laws of the block.
+pub mod Storing
+pub mod Adding

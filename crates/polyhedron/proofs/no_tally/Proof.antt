@@ -1,0 +1,12 @@
+-- `polyhedron::no_tally` meets its contract. Assumes nothing.
+use mathlib.Core.Path.{refl}
+use Rattle.polyhedron.specs.Centroid.{noTally}
+use Rattle.polyhedron.proofs.no_tally.Statement.{statement}
+use Rattle.polyhedron.proofs.no_tally.Tie as tie
+
+returns : tie.Need-returns
+unfolding noTally
+returns c = refl
+
+pub no-tally-spec : {M : Type 1} → statement M
+no-tally-spec = tie.close (tie.spec returns)

@@ -1,0 +1,4 @@
+-- The field of a closed polyhedron of triangles.
+pub mod Centroid
+pub mod Polyhedron
+pub mod PolyhedronLaws

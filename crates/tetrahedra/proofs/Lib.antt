@@ -1,0 +1,2 @@
+-- What the proofs of the loops share.
+pub mod Nodes

@@ -1,0 +1,2 @@
+-- The far field of a polyhedron.
+pub mod Tetrahedra
