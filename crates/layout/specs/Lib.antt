@@ -1,0 +1,4 @@
+-- Numbers as bytes.
+pub mod LittleEndian
+pub mod Parts
+pub mod WorkedExamples

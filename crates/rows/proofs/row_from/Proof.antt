@@ -1,0 +1,12 @@
+-- `rows::row_from` meets its contract. Assumes nothing.
+use borrow.Author.Needs.{needs}
+use Rattle.rows.specs.Row.{rowFrom}
+use Rattle.rows.proofs.row_from.Statement.{statement}
+use Rattle.rows.proofs.row_from.Tie as tie
+
+returns : tie.Need-returns
+unfolding rowFrom
+returns c = rw (← c .before .body-of .ensures, ← c .total-field-of .ensures)
+
+pub row-from-spec : {M : Type 1} → statement M
+row-from-spec = tie.close (tie.spec (λ c κs. search needs) (λ c κs. search needs) returns)

@@ -1,0 +1,3 @@
+-- The row of a station.
+pub mod Row
+pub mod Known

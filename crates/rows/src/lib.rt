@@ -1,0 +1,160 @@
+// The row of a station.
+ghost use mathlib.Core.Path.{_≡_};
+ghost use mathlib.Core.Bool.{true, false};
+ghost use Prim.Native.Nat.{_*_, _≤_};
+ghost use lib.ListN.{length};
+ghost use Rattle.newtonian.specs.Field as newtonian;
+ghost use Rattle.orders.specs.Edges.{maxVertices};
+ghost use Rattle.orders.specs.Order.{orderList};
+ghost use Rattle.mesh.specs.Surface.{Body, vertexCount};
+ghost use Rattle.rows.specs.Row.{isMesh, rowWidth, fieldAt, rowFrom, rowAt, rowNumbers, allFinite, isFiniteRow, rowCause, answerOf};
+ghost use Rattle.rows.specs.Known.{CenterOf, Known};
+use newtonian::Field;
+use newtonian::Newtonian;
+use newtonian::Vector;
+use prism::AxisRule;
+use refusals::Cause;
+use refusals::Refusal;
+
+// The field, what the magnetisation adds to the ambient field, and the total field's anomaly.
+pub struct Row {
+    pub field: Newtonian,
+    pub anomaly: Vector,
+    pub total: f64,
+}
+
+// The row, or a refusal.
+pub enum RowAnswer {
+    At(Row),
+    Refused(Refusal),
+}
+
+// A mesh's centroid and radius, which are the same for every station.
+pub struct Center {
+    pub centroid: Vector,
+    pub radius: f64,
+}
+
+pub fn is_mesh(kind: u32) -> bool
+    ensures { λ r. ⌜ r ≡ isMesh kind ⌝ }
+{
+    kind == 1
+}
+
+// The bytes of a row.
+pub fn row_length(kind: u32) -> usize
+    ensures { λ r. ⌜ r ≡ 8 * rowWidth kind ⌝ }
+{
+    64
+}
+
+// Taken once for all stations. A prism has none, and gets zeros.
+pub fn center_of(kind: u32, verts: &[f64], faces: &[u32], order: &[u32]) -> Center
+    requires { ⌜ (isMesh kind ≡ true → Body (now verts) (now faces) × (now order ≡ orderList (now faces)) × (vertexCount (now verts) ≤ maxVertices)) ⌝ }
+    ensures { λ r. ⌜ CenterOf kind r (now (verts .entry)) (now (faces .entry)) ⌝ }
+{
+    if is_mesh(kind) {
+        let c = polyhedron::centroid(verts, faces, order);
+        return Center {
+            centroid: c,
+            radius: polyhedron::radius(c, verts, faces, order),
+        };
+    }
+    Center {
+        centroid: Vector {
+            x: 0.0,
+            y: 0.0,
+            z: 0.0,
+        },
+        radius: 0.0,
+    }
+}
+
+// The field at the station p of number i.
+fn field_at(kind: u32, i: u32, p: Vector, c: Center, verts: &[f64], faces: &[u32]) -> Field
+    requires { ⌜ Known kind c (now verts) (now faces) ⌝ }
+    ensures { λ r. ⌜ newtonian.answerOf r ≡ fieldAt kind i p (now (verts .entry)) (now (faces .entry)) ⌝ }
+{
+    if is_mesh(kind) {
+        return polyhedron::polyhedron_at(i, p, c.centroid, c.radius, verts, faces);
+    }
+    let lo = mesh::surface::vertex(verts, 0);
+    let hi = mesh::surface::vertex(verts, 1);
+    prism::prism_at(AxisRule::LastOfEquals, i, p, lo, hi)
+}
+
+fn row_from(kind: u32, magnetisation: Vector, ambient: Vector, field: Newtonian) -> Row
+    ensures { λ r. ⌜ r ≡ rowFrom kind magnetisation ambient field ⌝ }
+{
+    let hessian = field.hessian;
+    let anomaly = anomaly::body_of(anomaly::C_M, hessian, magnetisation);
+    Row {
+        field,
+        anomaly,
+        total: anomaly::total_field_of(ambient, anomaly),
+    }
+}
+
+// The row at the station p of number i.
+pub fn row_at(
+    kind: u32,
+    magnetisation: Vector,
+    ambient: Vector,
+    i: u32,
+    p: Vector,
+    c: Center,
+    verts: &[f64],
+    faces: &[u32],
+) -> RowAnswer
+    requires { ⌜ Known kind c (now verts) (now faces) ⌝ }
+    ensures { λ r. ⌜ answerOf r ≡ rowAt kind magnetisation ambient i p (now (verts .entry)) (now (faces .entry)) ⌝ }
+{
+    match field_at(kind, i, p, c, verts, faces) {
+        Field::At(g) => RowAnswer::At(row_from(kind, magnetisation, ambient, g)),
+        Field::Refused(r) => RowAnswer::Refused(r),
+    }
+}
+
+// The numbers that the sheet holds of a row.
+pub fn row_numbers(kind: u32, row: Row) -> [f64; 8]
+    ensures { λ r. ⌜ r ≡ rowNumbers kind row ⌝ }
+{
+    let g = row.field.gradient;
+    let b = row.anomaly;
+    [row.field.potential, g.x, g.y, g.z, b.x, b.y, b.z, row.total]
+}
+
+fn all_finite(numbers: &[f64]) -> bool
+    ensures { λ r. ⌜ r ≡ allFinite (now (numbers .entry)) ⌝ }
+{
+    let mut i = 0;
+    while i < numbers.len() {
+        if !doubles::is_finite(numbers[i]) {
+            return false;
+        }
+        i += 1;
+    }
+    true
+}
+
+pub fn is_finite_row(kind: u32, row: Row) -> bool
+    ensures { λ r. ⌜ r ≡ isFiniteRow kind row ⌝ }
+{
+    let numbers = row_numbers(kind, row);
+    all_finite(&numbers)
+}
+
+// 10 or 11, then 13, of station i.
+pub fn row_cause(kind: u32, i: u32, a: RowAnswer) -> Cause
+    ensures { λ r. ⌜ r ≡ rowCause kind i (answerOf a) ⌝ }
+{
+    match a {
+        RowAnswer::Refused(r) => Cause::Refused(r),
+        RowAnswer::At(row) => {
+            if is_finite_row(kind, row) {
+                return Cause::None;
+            }
+            Cause::Refused(Refusal::NotFinite(i))
+        }
+    }
+}

@@ -1,0 +1,8 @@
+// The result sheet: its verdict.
+use refusals::Refusal;
+
+// What `check_sheet` answers: accepted, with the kind and S that stand in the trailer, or the first cause of refusal.
+pub enum Verdict {
+    Accepted(u32, u32),
+    Refused(Refusal),
+}
