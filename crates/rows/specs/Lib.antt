@@ -1,3 +1,4 @@
 -- The row of a station.
 pub mod Row
 pub mod Known
+pub mod RowRefusals

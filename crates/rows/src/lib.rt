@@ -1,8 +1,7 @@
 // The row of a station.
 ghost use mathlib.Core.Path.{_≡_};
-ghost use mathlib.Core.Bool.{true, false};
+ghost use mathlib.Core.Bool.{true};
 ghost use Prim.Native.Nat.{_*_, _≤_};
-ghost use lib.ListN.{length};
 ghost use Rattle.newtonian.specs.Field as newtonian;
 ghost use Rattle.orders.specs.Edges.{maxVertices};
 ghost use Rattle.orders.specs.Order.{orderList};

@@ -1,0 +1,106 @@
+-- What is known of the lists of a sheet, once none of the causes 16, 1, 2, 3, 4, 17 and 18 holds. Assumes nothing.
+use mathlib.Core.Path.{_≡_, refl, sym, ap, _∙_}
+use mathlib.Core.Bool.{Bool, true, false, _&&_, _||_}
+use mathlib.Core.List.{List}
+use Prim.Native.Nat.{ℕ, _*_}
+use native.Mathlib.Omega.{arith}
+use lib.Dec.{eqb}
+use lib.Ieee.{Float}
+use lib.ListN.{length}
+use borrow.Author.Tests.{eqb-true}
+use Rattle.refusals.specs.declared.Cause.the-variants.{None}
+use Rattle.refusals.proofs.Causes.{both}
+use Rattle.lists.proofs.Numbers as numbers
+use Rattle.orders.specs.Order.{orderList}
+use Rattle.mesh.specs.Surface.{Body, vertexCount}
+use Rattle.mesh.specs.Check as mesh
+use Rattle.mesh.specs.CauseLaws.{none-vertex}
+use Rattle.rows.specs.Row.{isMesh}
+use Rattle.sheet.specs.Writer.{knownKind, outOfLimits, noSuchVertex}
+use Rattle.sheet.specs.Checker.{kindIn, verticesIn, facesIn, facesStart, orderStart, matesStart, parse, orderIn, matesIn, wrongOrder, wrongMate}
+use Rattle.sheet.specs.OrderAndMates.{is-order}
+use Rattle.readers.specs.Opened.{Opened}
+use Rattle.sheet.specs.Reading.{faces-length}
+use Rattle.readers.proofs.Parsed.{vertices-length}
+use Rattle.layout.specs.LittleEndian.{unpack, doubles}
+use Rattle.layout.proofs.Lists.{unpack-length}
+use Rattle.checker.specs.Stages.{listsCause, Loaded, Ready}
+
+second : (a b : Bool) → (a || b) ≡ true → a ≡ false → b ≡ true
+second true b e z = cc
+second false b e z = e
+
+-- a known kind that is no mesh has two vertices
+two-corners : (kind v f : ℕ) → knownKind kind v f ≡ true → isMesh kind ≡ false → v ≡ 2
+unfolding knownKind isMesh
+two-corners kind v f e z =
+    let t = numbers.both (eqb kind 2) (eqb v 2 && eqb f 0) (second (eqb kind 1) _ e z) .1 in
+    eqb-true v 2 (numbers.both (eqb v 2) (eqb f 0) t .0)
+
+-- the lists, as they are read
+module _ (b : List ℕ) {n : ℕ} where
+  pub vertices-loaded : n ≡ 3 * verticesIn b → doubles (unpack 8 n b 0) ≡ parse b .vertices
+  unfolding parse
+  vertices-loaded e = rw e
+
+  pub faces-loaded : {at : ℕ} → n ≡ 3 * facesIn b → at ≡ facesStart b → unpack 4 n b at ≡ parse b .faces
+  unfolding parse
+  faces-loaded e p = rw (e, p)
+
+  pub order-loaded : {at : ℕ} → n ≡ 3 * facesIn b → at ≡ orderStart b → unpack 4 n b at ≡ orderIn b
+  order-loaded e p = rw (e, p)
+
+module _ (b : List ℕ) (h : Opened b) where
+  body : noSuchVertex (parse b) ≡ None → Body (parse b .vertices) (parse b .faces)
+  unfolding noSuchVertex
+  body e =
+      let n = faces-length b in
+      let m = vertices-length b in
+      let inside = none-vertex (parse b .vertices) (parse b .faces) e in
+      record {
+        faces = record { triples = omega arith; few = omega (arith, h .faces); small = λ i l. omega (arith, inside i l, h .vertices) };
+        inside = inside;
+      }
+
+  ready : noSuchVertex (parse b) ≡ None → Ready b (parse b .vertices) (parse b .faces)
+  ready e = record {
+    opened = h;
+    vertices = refl;
+    faces = refl;
+    body = body e;
+    corners = λ z. omega (arith, vertices-length b, two-corners (kindIn b) (verticesIn b) (facesIn b) (h .known) z);
+  }
+
+  none-order : listsCause b ≡ None → (noSuchVertex (parse b) ≡ None) × (wrongOrder (parse b .faces) (orderIn b) ≡ None)
+  unfolding listsCause
+  none-order e =
+      let p = both (outOfLimits (parse b)) _ e in
+      let q = both (noSuchVertex (parse b)) _ (p .1) in
+      (q .0, both (wrongOrder (parse b .faces) (orderIn b)) _ (q .1) .0)
+
+module _ (b : List ℕ) (v : List Float) (f o : List ℕ) (l : Loaded b v f o) where
+  pub faces-size : length f ≡ 3 * facesIn b
+  faces-size = ap length (l .faces) ∙ faces-length b
+
+  pub order-size : length o ≡ length f
+  order-size = ap length (l .order) ∙ unpack-length 4 (3 * facesIn b) b _ ∙ sym faces-size
+
+  module _ (e : listsCause b ≡ None) where
+    pub now-ready : Ready b v f
+    now-ready = rw (l .vertices, l .faces) (ready b (l .opened) (none-order b (l .opened) e .0))
+
+    pub in-order : o ≡ orderList f
+    in-order =
+        is-order f o order-size (rw (l .faces, l .order) (none-order b (l .opened) e .1)) (now-ready .body .faces)
+
+  -- ---- 4, 17 and 18 of the lists are those of the sheet
+
+  pub vertex-is : mesh.noSuchVertex (vertexCount v) f ≡ noSuchVertex (parse b)
+  unfolding noSuchVertex
+  vertex-is = rw (l .vertices, l .faces)
+
+  pub order-is : wrongOrder f o ≡ wrongOrder (parse b .faces) (orderIn b)
+  order-is = rw (l .faces, l .order)
+
+  pub mate-is : wrongMate f (unpack 4 (length f) b (matesStart b)) ≡ wrongMate (parse b .faces) (matesIn b)
+  mate-is = ap (λ (n : ℕ). wrongMate f (unpack 4 n b (matesStart b))) faces-size ∙ ap (λ (g : List ℕ). wrongMate g (matesIn b)) (l .faces)

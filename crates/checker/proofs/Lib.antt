@@ -1,0 +1,6 @@
+-- Laws that the proofs of the functions share.
+mod Staged
+mod Limits
+mod Known
+mod Solid
+mod Station

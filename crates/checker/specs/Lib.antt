@@ -1,0 +1,2 @@
+-- The checker's causes in stages.
+pub mod Stages

@@ -1,0 +1,3 @@
+-- The first causes of refusal.
+pub mod Arguments
+pub mod CountCause

@@ -1,0 +1,2 @@
+-- The rows of a sheet, written.
+pub mod Rows

@@ -1,0 +1,2 @@
+-- A sheet put together of its parts.
+pub mod Put

@@ -1,0 +1,2 @@
+-- Laws of the line.
+mod Text

@@ -1,0 +1,24 @@
+-- `recheck_line::put_decimal` meets its contract: the fewest digits are those of `decimal`. Assumes nothing.
+use mathlib.Core.Path.{ap, _∙_}
+use native.Mathlib.Omega.{arith}
+use lib.ListN.{length}
+use denote.Ref.{now}
+use lib.Seq.{sets}
+use Rattle.recheck_line.proofs.Text.{decimal-is, few-digits}
+use borrow.Author.Needs.{needs}
+use Rattle.recheck_line.proofs.put_decimal.Statement.{statement}
+use Rattle.recheck_line.proofs.put_decimal.Tie as tie
+
+put-requires : tie.Need-put-requires
+put-requires c κs =
+    let l = few-digits (c .before .before .before .before .before .args .n) (c .before .before .decimal .result) (c .before .before .decimal .ensures .1 .0) (search needs) in
+    omega (arith, c .before .before .decimal .ensures .0 .1)
+
+returns : tie.Need-returns
+returns c =
+    let f = c .before .before .before .before .before .decimal .ensures .1 .0 in
+    let g = c .before .before .before .before .before .decimal .ensures .1 .1 ∙ decimal-is (c .before .before .before .before .before .before .before .before .args .n) (c .before .before .before .before .before .decimal .result) f (search needs) in
+    ((c .before .before .before .before .before .decimal .ensures .0 .1 ∙ ap length g, few-digits (c .before .before .before .before .before .before .before .before .args .n) (c .before .before .before .before .before .decimal .result) f (search needs)), c .before .before .put .ensures ∙ ap (sets (now (c .before .before .before .before .before .before .before .before .args .out)) (c .before .before .before .before .before .before .before .before .args .at)) g)
+
+pub put-decimal-spec : {M : Type 1} → statement M
+put-decimal-spec = tie.close (tie.spec (λ c κs. search needs) (λ c. search needs) (λ c. search needs) put-requires (λ c. search needs) returns)

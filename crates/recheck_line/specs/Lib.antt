@@ -1,0 +1,2 @@
+-- The line that `recheck` prints.
+pub mod Line

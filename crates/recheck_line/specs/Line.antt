@@ -1,0 +1,58 @@
+-- The line that `recheck` prints, in ASCII, as document 01 has it: `accepted KIND S` or `refused NUMBER PLACE`, and a newline. Definitions only.
+use mathlib.Core.Path.{_≡_}
+use mathlib.Core.Bool.{cond}
+use mathlib.Core.List.{List, [], _∷_, _++_}
+use Prim.Native.Nat.{ℕ, zero, suc, _/_, _≤_}
+use lib.Dec.{ltb, leb}
+use lib.ListN.{length, take}
+use lib.Seq.{sets}
+use Rattle.io.specs.Digits.{digits}
+use Rattle.refusals.specs.declared.Refusal.the-variants.{TooMany}
+use Rattle.refusals.specs.Numbers.{numberOf, placeOf}
+use Rattle.sheet.specs.declared.Verdict.{Verdict}
+use Rattle.sheet.specs.declared.Verdict.the-variants.{Accepted, Refused}
+use Rattle.sheet.specs.Checker.{verdict}
+
+-- how many decimal digits n has, but at most m more than one
+unfoldable pub places : ℕ → ℕ → ℕ
+places zero n = 1
+places (suc m) n = cond (ltb n 10) 1 (suc (places m (n / 10)))
+
+-- n in decimal digits, the first not 0 unless n is; a number of 64 bits has at most 20
+unfoldable pub decimal : ℕ → List ℕ
+decimal n = digits 10 (places 19 n) n
+
+-- `accepted ` and `refused `
+abbrev pub acceptedWord : List ℕ
+acceptedWord = 97 ∷ 99 ∷ 99 ∷ 101 ∷ 112 ∷ 116 ∷ 101 ∷ 100 ∷ 32 ∷ []
+
+abbrev pub refusedWord : List ℕ
+refusedWord = 114 ∷ 101 ∷ 102 ∷ 117 ∷ 115 ∷ 101 ∷ 100 ∷ 32 ∷ []
+
+-- the word, x, a space, y and a newline
+unfoldable pub lineOf : List ℕ → ℕ → ℕ → List ℕ
+lineOf word x y = word ++ (decimal x ++ (32 ∷ (decimal y ++ (10 ∷ []))))
+
+unfoldable pub verdictLine : Verdict → List ℕ
+verdictLine (Accepted kind stations) = lineOf acceptedWord kind stations
+verdictLine (Refused r) = lineOf refusedWord (numberOf r) (placeOf r)
+
+-- document 01: a sheet of up to 65,536 bytes; longer input prints `refused 2 0`
+abbrev pub maxInput : ℕ
+maxInput = 65536
+
+unfoldable pub recheckLine : List ℕ → List ℕ
+recheckLine b = verdictLine (cond (leb (length b) maxInput) (verdict b) (Refused TooMany))
+
+-- ---- a line in a lent buffer
+
+-- no line is longer
+abbrev pub lineRoom : ℕ
+lineRoom = 51
+
+-- the buffer, which was `old`, starts with the line, of n bytes, and is otherwise as it was
+pub record Holds (n : ℕ) (new old line : List ℕ) : Type 0 where
+  pub count : n ≡ length line
+  pub bytes : new ≡ sets old 0 line
+  pub fits : n ≤ length new
+  pub whole : n ≡ length (take n new)

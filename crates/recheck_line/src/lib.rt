@@ -1,0 +1,71 @@
+// The line that `recheck` prints.
+ghost use mathlib.Core.Path.{_≡_};
+ghost use Prim.Native.Nat.{_+_, _≤_};
+ghost use lib.ListN.{length};
+ghost use lib.Seq.{sets};
+ghost use Rattle.recheck_line.specs.Line.{decimal, lineOf, lineRoom, verdictLine, recheckLine, Holds};
+use refusals::Refusal;
+use sheet::Verdict;
+
+const MAX_INPUT: usize = 65536;
+
+// Writes text from place at on.
+fn put(out: &mut [u8], at: usize, text: &[u8])
+    requires { ⌜ at + length (now text) ≤ length (now out) ⌝ }
+    ensures { λ _. ⌜ now (out .exit) ≡ sets (now (out .entry)) at (now (text .entry)) ⌝ }
+{
+    let mut i = 0;
+    while i < text.len() {
+        out[at + i] = text[i];
+        i += 1;
+    }
+}
+
+// Writes n's digits from place at on, and answers how many there are.
+fn put_decimal(out: &mut [u8], at: usize, n: u32) -> usize
+    requires { ⌜ at + 20 ≤ length (now out) ⌝ }
+    ensures { λ r. ⌜ (r ≡ length (decimal n)) × (r ≤ 20) ⌝ }
+    ensures { λ r. ⌜ now (out .exit) ≡ sets (now (out .entry)) at (decimal n) ⌝ }
+{
+    let mut digits = [0u8; 20];
+    let k = io::decimal(n as u64, &mut digits);
+    put(out, at, &digits[..k]);
+    k
+}
+
+// Writes a word, two numbers and the line's end, and answers how many bytes that is.
+fn put_line(out: &mut [u8], word: &[u8], x: u32, y: u32) -> usize
+    requires { ⌜ length (now word) + 42 ≤ length (now out) ⌝ }
+    ensures { λ r. ⌜ Holds r (now (out .exit)) (now (out .entry)) (lineOf (now (word .entry)) x y) ⌝ }
+{
+    put(out, 0, word);
+    let a = word.len();
+    let b = a + put_decimal(out, a, x);
+    put(out, b, b" ");
+    let c = b + 1;
+    let d = c + put_decimal(out, c, y);
+    put(out, d, b"\n");
+    d + 1
+}
+
+// Writes the line of a verdict at the start of out, and answers how many bytes it has.
+pub fn verdict_line(v: Verdict, out: &mut [u8]) -> usize
+    requires { ⌜ lineRoom ≤ length (now out) ⌝ }
+    ensures { λ r. ⌜ Holds r (now (out .exit)) (now (out .entry)) (verdictLine v) ⌝ }
+{
+    match v {
+        Verdict::Accepted(kind, stations) => put_line(out, b"accepted ", kind, stations),
+        Verdict::Refused(r) => put_line(out, b"refused ", refusals::number(r), refusals::place(r)),
+    }
+}
+
+// Writes the line that `recheck` prints of its input at the start of out, and answers how many bytes it has.
+pub fn recheck_line(input: &[u8], out: &mut [u8]) -> usize
+    requires { ⌜ lineRoom ≤ length (now out) ⌝ }
+    ensures { λ r. ⌜ Holds r (now (out .exit)) (now (out .entry)) (recheckLine (now (input .entry))) ⌝ }
+{
+    if MAX_INPUT < input.len() {
+        return verdict_line(Verdict::Refused(Refusal::TooMany), out);
+    }
+    verdict_line(checker::check_sheet(input), out)
+}

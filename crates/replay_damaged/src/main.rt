@@ -1,0 +1,122 @@
+// Replays the damaged sheets in the file stdin: each after its length, and the number and the place of the
+// refusal that it should have, in 4 bytes each. Then tries the limits of the counts. Prints how many sheets
+// were checked, and how many have another answer.
+ghost use mathlib.Core.Path.{_≡_};
+ghost use Prim.Native.Nat.{_≤_};
+ghost use lib.ListN.{length};
+use libc::STDIN_FILENO;
+use libc::STDOUT_FILENO;
+use sheet::Verdict;
+
+fn is_refused(sheet: &[u8], number: u32, place: u32) -> bool {
+    match checker::check_sheet(sheet) {
+        Verdict::Accepted(_, _) => false,
+        Verdict::Refused(r) => {
+            if refusals::number(r) != number {
+                return false;
+            }
+            refusals::place(r) == place
+        }
+    }
+}
+
+fn space() -> [u8; 480104]
+    ensures { λ r. ⌜ 480104 ≡ length r ⌝ }
+{
+    [0u8; 480104]
+}
+
+// The trailer of a mesh of v vertices, all zeros, with no faces and no stations.
+fn put_trailer(sheet: &mut [u8], v: u32)
+    requires { ⌜ (80 ≤ length (now sheet)) × (v ≤ 20001) ⌝ }
+{
+    let at = sheet.len() - 80;
+    layout::put_u32(sheet, at, 1);
+    layout::put_u32(sheet, at + 4, v);
+    layout::put_u64(sheet, at + 72, 24 * (v as u64));
+}
+
+// Whether such a sheet is refused by the number.
+fn zeros(sheet: &mut [u8], v: u32, number: u32) -> bool
+    requires { ⌜ (80 ≤ length (now sheet)) × (v ≤ 20001) ⌝ }
+{
+    put_trailer(sheet, v);
+    is_refused(sheet, number, 0)
+}
+
+// V = 20,000 is within the limit: no faces is 8. One more is 2.
+fn limits() -> bool {
+    let mut within = space();
+    if !zeros(&mut within[..480080], 20000, 8) {
+        return false;
+    }
+    let mut over = space();
+    zeros(&mut over, 20001, 2)
+}
+
+fn small(n: u32) -> usize
+    ensures { λ r. ⌜ r ≤ 16384 ⌝ }
+{
+    if n <= 16384 { n as usize } else { 0 }
+}
+
+// What the list has next.
+enum Sheet {
+    Same,
+    Differs,
+    End,
+}
+
+// Reads as many bytes as `bytes` has.
+fn replay(bytes: &mut [u8], number: u32, place: u32) -> Sheet {
+    if io::read_full(STDIN_FILENO, bytes) < bytes.len() {
+        return Sheet::Differs;
+    }
+    if is_refused(bytes, number, place) {
+        Sheet::Same
+    } else {
+        Sheet::Differs
+    }
+}
+
+fn next_sheet() -> Sheet {
+    let mut head = [0u8; 12];
+    if io::read_full(STDIN_FILENO, &mut head) < 12 {
+        return Sheet::End;
+    }
+    let n = small(layout::u32_at(&head, 0));
+    let number = layout::u32_at(&head, 4);
+    let place = layout::u32_at(&head, 8);
+    let mut bytes = io::large_buffer();
+    replay(&mut bytes[..n], number, place)
+}
+
+fn report(checked: u64, differ: u64) {
+    io::write_all(STDOUT_FILENO, b"damaged sheets: ");
+    io::print_decimal(STDOUT_FILENO, checked);
+    io::write_all(STDOUT_FILENO, b" checked, ");
+    io::print_decimal(STDOUT_FILENO, differ);
+    io::write_all(STDOUT_FILENO, b" differ\n");
+    if limits() {
+        io::write_all(STDOUT_FILENO, b"limit of V: as it should be\n");
+    }
+}
+
+fn main() {
+    let mut checked = 0u64;
+    let mut differ = 0u64;
+    let mut left = 1000000u32;
+    while 0 < left {
+        let next = next_sheet();
+        match next {
+            Sheet::Same => checked = std::num::wrapping_add_u64(checked, 1),
+            Sheet::Differs => {
+                checked = std::num::wrapping_add_u64(checked, 1);
+                differ = std::num::wrapping_add_u64(differ, 1);
+            }
+            Sheet::End => break,
+        }
+        left -= 1;
+    }
+    report(checked, differ);
+}

@@ -1,0 +1,3 @@
+-- What the scans read and compare; `Read` is for the crates above too.
+pub mod Read
+mod Compare

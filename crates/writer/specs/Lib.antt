@@ -1,0 +1,3 @@
+-- `write_sheet`.
+pub mod Written
+pub mod Steps

@@ -1,0 +1,27 @@
+-- The writer's causes of refusal from 4 on, in the steps of the code. Definitions only.
+use mathlib.Core.Path.{_≡_}
+use mathlib.Core.List.{List}
+use Prim.Native.Nat.{ℕ}
+use Rattle.refusals.specs.Causes.{orElse, firstOf}
+use Rattle.refusals.specs.declared.Cause.{Cause}
+use Rattle.mesh.specs.Check.{workAfter}
+use Rattle.sheet.specs.Input.{SheetInput, stationCount}
+use Rattle.sheet.specs.Bytes.{sheetLength}
+use Rattle.sheet.specs.Writer.{noSuchVertex, bodyCause, stationCause, outAfter}
+use Rattle.writer.specs.declared.Written.{Written}
+use Rattle.writer.specs.Written.{writtenOf}
+
+module _ (s : SheetInput) where
+  -- 4, then 5, 6, 7 and 8 of a mesh, or 9 of a prism
+  abbrev pub checkBodyCause : Cause
+  checkBodyCause = orElse (noSuchVertex s) (bodyCause s)
+
+  -- these, and by station 10 or 11, 13
+  abbrev pub lateCause : Cause
+  lateCause = orElse checkBodyCause (firstOf (stationCount s) (stationCause s))
+
+-- the equations of `Writes`, for the first cause c that was found
+pub record Leaves (s : SheetInput) (c : Cause) (w o : List ℕ) (r : Written) (p q : List ℕ) : Type 0 where
+  pub answer : r ≡ writtenOf c (sheetLength s)
+  pub work : p ≡ workAfter c (s .faces) w
+  pub out : q ≡ outAfter s c o
