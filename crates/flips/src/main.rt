@@ -108,9 +108,15 @@ fn report(sheet: &mut [u8]) {
     }
     io::print_decimal(STDOUT_FILENO, sheet.len() as u64);
     if is_accepted(sheet) {
-        io::write_all(STDOUT_FILENO, b" bytes, accepted; with a bit flipped in what was given: ");
+        io::write_all(
+            STDOUT_FILENO,
+            b" bytes, accepted; with a bit flipped in what was given: ",
+        );
     } else {
-        io::write_all(STDOUT_FILENO, b" bytes, refused; with a bit flipped in what was given: ");
+        io::write_all(
+            STDOUT_FILENO,
+            b" bytes, refused; with a bit flipped in what was given: ",
+        );
     }
     io::print_decimal(STDOUT_FILENO, count(sheet, true));
     io::write_all(STDOUT_FILENO, b" accepted; in the rest: ");

@@ -129,7 +129,15 @@ fn vector_at(sheet: &[u8], at: usize) -> Vector
 }
 
 // Writes what the sheet holds, with these vertices, faces and stations, and compares.
-fn rewritten(sheet: &[u8], kind: u32, verts: &[f64], faces: &[u32], stations: &[f64], work: &mut [u32], out: &mut [u8]) -> bool
+fn rewritten(
+    sheet: &[u8],
+    kind: u32,
+    verts: &[f64],
+    faces: &[u32],
+    stations: &[f64],
+    work: &mut [u32],
+    out: &mut [u8],
+) -> bool
     requires { ⌜ (80 ≤ length (now sheet)) × (length (now sheet) ≤ length (now out)) ⌝ }
 {
     let at = sheet.len() - 80;
@@ -198,7 +206,11 @@ fn replay(bytes: &mut [u8]) -> Sheet
     if io::read_full(STDIN_FILENO, bytes) < bytes.len() {
         return Sheet::Differs;
     }
-    if holds(bytes) { Sheet::Same } else { Sheet::Differs }
+    if holds(bytes) {
+        Sheet::Same
+    } else {
+        Sheet::Differs
+    }
 }
 
 fn next_sheet() -> Sheet {
