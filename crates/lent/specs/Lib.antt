@@ -1,0 +1,4 @@
+-- What the exported calls return and write.
+pub mod Answers
+pub mod Exported
+pub mod Sheets

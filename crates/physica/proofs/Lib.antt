@@ -1,0 +1,2 @@
+-- Where the rows of a sheet end.
+mod RowsPlace

@@ -1,0 +1,10 @@
+-- `physica::magnetics::physica_koenigsberger` meets its contract. Assumes nothing.
+use borrow.Author.Needs.{needs}
+use Rattle.physica.proofs.magnetics.physica_koenigsberger.Statement.{statement}
+use Rattle.physica.proofs.magnetics.physica_koenigsberger.Tie as tie
+
+returns : tie.Need-returns
+returns c = rw (← c .before .before .before .before .vector-of .ensures, ← c .before .before .before .vector-of2 .ensures, ← c .before .before .koenigsberger .ensures) (c .give-number .ensures)
+
+pub physica-koenigsberger-spec : {M : Type 1} → statement M
+physica-koenigsberger-spec = tie.close (tie.spec (λ c κs. search needs) (λ c κs. search needs) (λ c κs. search needs) (λ c κs. search needs) returns)

@@ -1,0 +1,10 @@
+-- `physica::magnetics::physica_magnetisation` meets its contract. Assumes nothing.
+use borrow.Author.Needs.{needs}
+use Rattle.physica.proofs.magnetics.physica_magnetisation.Statement.{statement}
+use Rattle.physica.proofs.magnetics.physica_magnetisation.Tie as tie
+
+returns : tie.Need-returns
+returns c = rw (← c .before .before .before .before .before .vector-of .ensures, ← c .before .before .before .before .vector-of2 .ensures, ← c .before .before .before .hessian-of .ensures, ← c .before .before .magnetisation .ensures) (c .give-vector .ensures)
+
+pub physica-magnetisation-spec : {M : Type 1} → statement M
+physica-magnetisation-spec = tie.close (tie.spec (λ c κs. search needs) (λ c κs. search needs) (λ c κs. search needs) (λ c κs. search needs) (λ c κs. search needs) returns)

@@ -1,0 +1,69 @@
+// The bodies: prism, mesh, polyhedron.
+ghost use mathlib.Core.Path.{_≡_};
+ghost use lib.ListN.{length};
+ghost use Rattle.prism.specs.Prism.{prism};
+ghost use Rattle.mesh.specs.Check.{checkMesh, meshCause, workAfter, answerOf};
+ghost use Rattle.polyhedron.specs.Polyhedron.{polyhedron, polyhedronCause};
+ghost use Rattle.lent.specs.Exported.{vectorOf, fieldNumbers, itself, returned, written, valuesAfter};
+use lent::give::give_field;
+use lent::give::give_volume;
+use lent::take::vector_of;
+
+// The field of a prism at a station: 3, 9, 10 with station 0.
+#[no_mangle]
+pub extern "C" fn physica_prism(
+    station: &[f64; 3],
+    min: &[f64; 3],
+    max: &[f64; 3],
+    out: &mut [f64; 13],
+    values: &mut [u32; 2],
+) -> u32
+    ensures number { λ r. ⌜ r ≡ returned (prism (vectorOf (now (station .entry))) (vectorOf (now (min .entry))) (vectorOf (now (max .entry)))) ⌝ }
+    ensures out { λ _. ⌜ now (out .exit) ≡ written fieldNumbers (prism (vectorOf (now (station .entry))) (vectorOf (now (min .entry))) (vectorOf (now (max .entry)))) (now (out .entry)) ⌝ }
+    ensures values { λ _. ⌜ now (values .exit) ≡ valuesAfter (prism (vectorOf (now (station .entry))) (vectorOf (now (min .entry))) (vectorOf (now (max .entry)))) ⌝ }
+{
+    give_field(
+        prism::prism(vector_of(station), vector_of(min), vector_of(max)),
+        out,
+        values,
+    )
+}
+
+// The volume of a closed mesh: 1, 2, 12, 3, 4, 5, 6, 7, 8. work is lent, three entries or more to a face.
+#[no_mangle]
+pub extern "C" fn physica_check_mesh(
+    verts: &[f64],
+    faces: &[u32],
+    work: &mut [u32],
+    out: &mut f64,
+    values: &mut [u32; 2],
+) -> u32
+    ensures number { λ r. ⌜ r ≡ returned (answerOf (checkMesh (now (verts .entry)) (now (faces .entry)) (length (now (work .entry))))) ⌝ }
+    ensures out { λ _. ⌜ now (out .exit) ≡ written itself (answerOf (checkMesh (now (verts .entry)) (now (faces .entry)) (length (now (work .entry))))) (now (out .entry)) ⌝ }
+    ensures values { λ _. ⌜ now (values .exit) ≡ valuesAfter (answerOf (checkMesh (now (verts .entry)) (now (faces .entry)) (length (now (work .entry))))) ⌝ }
+    ensures work { λ _. ⌜ now (work .exit) ≡ workAfter (meshCause (now (verts .entry)) (now (faces .entry)) (length (now (work .entry)))) (now (faces .entry)) (now (work .entry)) ⌝ }
+{
+    give_volume(mesh::check_mesh(verts, faces, work), out, values)
+}
+
+// The field of a closed mesh at a station: 1, 2, 12, 3, 4, 5, 6, 7, 8, 11 with station 0.
+#[no_mangle]
+pub extern "C" fn physica_polyhedron(
+    station: &[f64; 3],
+    verts: &[f64],
+    faces: &[u32],
+    work: &mut [u32],
+    out: &mut [f64; 13],
+    values: &mut [u32; 2],
+) -> u32
+    ensures number { λ r. ⌜ r ≡ returned (polyhedron (vectorOf (now (station .entry))) (now (verts .entry)) (now (faces .entry)) (length (now (work .entry)))) ⌝ }
+    ensures out { λ _. ⌜ now (out .exit) ≡ written fieldNumbers (polyhedron (vectorOf (now (station .entry))) (now (verts .entry)) (now (faces .entry)) (length (now (work .entry)))) (now (out .entry)) ⌝ }
+    ensures values { λ _. ⌜ now (values .exit) ≡ valuesAfter (polyhedron (vectorOf (now (station .entry))) (now (verts .entry)) (now (faces .entry)) (length (now (work .entry)))) ⌝ }
+    ensures work { λ _. ⌜ now (work .exit) ≡ workAfter (polyhedronCause (vectorOf (now (station .entry))) (now (verts .entry)) (now (faces .entry)) (length (now (work .entry)))) (now (faces .entry)) (now (work .entry)) ⌝ }
+{
+    give_field(
+        polyhedron::polyhedron(vector_of(station), verts, faces, work),
+        out,
+        values,
+    )
+}

@@ -1,0 +1,91 @@
+// Calls on numbers: Carlson's integrals, the complete elliptic integrals, the ring, the rules of quadrature.
+ghost use mathlib.Core.Path.{_≡_};
+ghost use Rattle.carlson.specs.Rc.{carlsonRc};
+ghost use Rattle.special.specs.Domain.{carlsonRf, carlsonRd, carlsonRj};
+ghost use Rattle.rings.specs.Elliptic.{completeElliptic};
+ghost use Rattle.rings.specs.Cel.{cel};
+ghost use Rattle.rings.specs.Ring.{ring};
+ghost use Rattle.legendre.specs.GaussLegendre.{gaussLegendre};
+ghost use Rattle.lent.specs.Answers.{integralAnswer, completeAnswer, ringAnswer, ruleAnswer};
+ghost use Rattle.lent.specs.Exported.{returned, written, itself, completeNumbers, ringNumbers, nodesOf, weightsOf};
+use lent::give::give_complete;
+use lent::give::give_integral;
+use lent::give::give_ring;
+use lent::give::give_rule;
+
+// R_C(x, y): 14, 15.
+#[no_mangle]
+pub extern "C" fn physica_carlson_rc(x: f64, y: f64, out: &mut f64) -> u32
+    ensures number { λ r. ⌜ r ≡ returned (integralAnswer (carlsonRc x y)) ⌝ }
+    ensures out { λ _. ⌜ now (out .exit) ≡ written itself (integralAnswer (carlsonRc x y)) (now (out .entry)) ⌝ }
+{
+    give_integral(carlson::carlson_rc(x, y), out)
+}
+
+// R_F(x, y, z): 14, 15.
+#[no_mangle]
+pub extern "C" fn physica_carlson_rf(x: f64, y: f64, z: f64, out: &mut f64) -> u32
+    ensures number { λ r. ⌜ r ≡ returned (integralAnswer (carlsonRf x y z)) ⌝ }
+    ensures out { λ _. ⌜ now (out .exit) ≡ written itself (integralAnswer (carlsonRf x y z)) (now (out .entry)) ⌝ }
+{
+    give_integral(special::carlson_rf(x, y, z), out)
+}
+
+// R_D(x, y, z): 14, 15.
+#[no_mangle]
+pub extern "C" fn physica_carlson_rd(x: f64, y: f64, z: f64, out: &mut f64) -> u32
+    ensures number { λ r. ⌜ r ≡ returned (integralAnswer (carlsonRd x y z)) ⌝ }
+    ensures out { λ _. ⌜ now (out .exit) ≡ written itself (integralAnswer (carlsonRd x y z)) (now (out .entry)) ⌝ }
+{
+    give_integral(special::carlson_rd(x, y, z), out)
+}
+
+// R_J(x, y, z, p): 14, 15.
+#[no_mangle]
+pub extern "C" fn physica_carlson_rj(x: f64, y: f64, z: f64, p: f64, out: &mut f64) -> u32
+    ensures number { λ r. ⌜ r ≡ returned (integralAnswer (carlsonRj x y z p)) ⌝ }
+    ensures out { λ _. ⌜ now (out .exit) ≡ written itself (integralAnswer (carlsonRj x y z p)) (now (out .entry)) ⌝ }
+{
+    give_integral(special::carlson_rj(x, y, z, p), out)
+}
+
+// K(m) and E(m): 14.
+#[no_mangle]
+pub extern "C" fn physica_complete_elliptic(m: f64, out: &mut [f64; 2]) -> u32
+    ensures number { λ r. ⌜ r ≡ returned (completeAnswer (completeElliptic m)) ⌝ }
+    ensures out { λ _. ⌜ now (out .exit) ≡ written completeNumbers (completeAnswer (completeElliptic m)) (now (out .entry)) ⌝ }
+{
+    give_complete(rings::complete_elliptic(m), out)
+}
+
+// Bulirsch's cel(k_c, p, a, b): 14.
+#[no_mangle]
+pub extern "C" fn physica_cel(kc: f64, p: f64, a: f64, b: f64, out: &mut f64) -> u32
+    ensures number { λ r. ⌜ r ≡ returned (integralAnswer (cel kc p a b)) ⌝ }
+    ensures out { λ _. ⌜ now (out .exit) ≡ written itself (integralAnswer (cel kc p a b)) (now (out .entry)) ⌝ }
+{
+    give_integral(rings::cel(kc, p, a, b), out)
+}
+
+// The average of 1/r over a ring, and its derivatives by ρ and z: 3, 14.
+#[no_mangle]
+pub extern "C" fn physica_ring(radius: f64, rho: f64, z: f64, out: &mut [f64; 3]) -> u32
+    ensures number { λ r. ⌜ r ≡ returned (ringAnswer (ring radius rho z)) ⌝ }
+    ensures out { λ _. ⌜ now (out .exit) ≡ written ringNumbers (ringAnswer (ring radius rho z)) (now (out .entry)) ⌝ }
+{
+    give_ring(rings::ring(radius, rho, z), out)
+}
+
+// The nodes and weights of an order, with zeros after them: 14.
+#[no_mangle]
+pub extern "C" fn physica_gauss_legendre(
+    order: u32,
+    nodes: &mut [f64; 16],
+    weights: &mut [f64; 16],
+) -> u32
+    ensures number { λ r. ⌜ r ≡ returned (ruleAnswer (gaussLegendre order)) ⌝ }
+    ensures nodes { λ _. ⌜ now (nodes .exit) ≡ written nodesOf (ruleAnswer (gaussLegendre order)) (now (nodes .entry)) ⌝ }
+    ensures weights { λ _. ⌜ now (weights .exit) ≡ written weightsOf (ruleAnswer (gaussLegendre order)) (now (weights .entry)) ⌝ }
+{
+    give_rule(legendre::gauss_legendre(order), nodes, weights)
+}

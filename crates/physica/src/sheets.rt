@@ -1,0 +1,87 @@
+// Sheets: writing, checking, and reading their rows.
+ghost use mathlib.Core.Path.{_≡_};
+ghost use Prim.Native.Nat.{ℕ, _+_, _-_};
+ghost use lib.ListN.{length, take, drop};
+ghost use Rattle.sheet.specs.Bytes.{trailerLength};
+ghost use Rattle.sheet.specs.Checker.{verdict, rowsPart, rowPart};
+ghost use Rattle.sheet.specs.Promises.{Right};
+ghost use Rattle.sheet.specs.declared.Verdict.the-variants.{Accepted};
+ghost use Rattle.writer.specs.Written.{Writes};
+ghost use Rattle.lent.specs.Exported.{itself, returned, written, valuesAfter};
+ghost use Rattle.lent.specs.Sheets.{writtenAnswer, verdictAnswer, sheetInput, writeSheet, rowCount, rowAfter};
+use lent::give::give_verdict;
+use lent::give::give_written;
+use lent::take::row_numbers;
+use lent::take::vector_of;
+
+// Writes the sheet of a body and of the stations into the front of out; size is its length: 1, 2, 12, 3, 4, 5 to 8 or
+// 9, then by station 10 or 11, 13.
+#[no_mangle]
+pub extern "C" fn physica_write_sheet(
+    kind: u32,
+    verts: &[f64],
+    faces: &[u32],
+    magnetisation: &[f64; 3],
+    ambient: &[f64; 3],
+    stations: &[f64],
+    work: &mut [u32],
+    out: &mut [u8],
+    size: &mut usize,
+    values: &mut [u32; 2],
+) -> u32
+    ensures number { λ r. ⌜ r ≡ returned (writtenAnswer (writeSheet (sheetInput kind (now (verts .entry)) (now (faces .entry)) (now (magnetisation .entry)) (now (ambient .entry)) (now (stations .entry))) (length (now (work .entry))) (length (now (out .entry))))) ⌝ }
+    ensures size { λ _. ⌜ now (size .exit) ≡ written itself (writtenAnswer (writeSheet (sheetInput kind (now (verts .entry)) (now (faces .entry)) (now (magnetisation .entry)) (now (ambient .entry)) (now (stations .entry))) (length (now (work .entry))) (length (now (out .entry))))) (now (size .entry)) ⌝ }
+    ensures values { λ _. ⌜ now (values .exit) ≡ valuesAfter (writtenAnswer (writeSheet (sheetInput kind (now (verts .entry)) (now (faces .entry)) (now (magnetisation .entry)) (now (ambient .entry)) (now (stations .entry))) (length (now (work .entry))) (length (now (out .entry))))) ⌝ }
+    ensures lent { λ _. ⌜ Writes (sheetInput kind (now (verts .entry)) (now (faces .entry)) (now (magnetisation .entry)) (now (ambient .entry)) (now (stations .entry))) (now (work .entry)) (now (out .entry)) (writeSheet (sheetInput kind (now (verts .entry)) (now (faces .entry)) (now (magnetisation .entry)) (now (ambient .entry)) (now (stations .entry))) (length (now (work .entry))) (length (now (out .entry)))) (now (work .exit)) (now (out .exit)) ⌝ }
+{
+    let m = vector_of(magnetisation);
+    let b = vector_of(ambient);
+    give_written(
+        writer::write_sheet(kind, verts, faces, m, b, stations, work, out),
+        size,
+        values,
+    )
+}
+
+// Checks a sheet; found is the kind and S of an accepted one: 16, 1, 2, 3, 4, 17, 18, 7 and 8 or 9, 19, then by station
+// 10 or 11, 13, 20.
+#[no_mangle]
+pub extern "C" fn physica_check_sheet(
+    sheet: &[u8],
+    found: &mut [u32; 2],
+    values: &mut [u32; 2],
+) -> u32
+    ensures number { λ r. ⌜ r ≡ returned (verdictAnswer (verdict (now (sheet .entry)))) ⌝ }
+    ensures found { λ _. ⌜ now (found .exit) ≡ written itself (verdictAnswer (verdict (now (sheet .entry)))) (now (found .entry)) ⌝ }
+    ensures values { λ _. ⌜ now (values .exit) ≡ valuesAfter (verdictAnswer (verdict (now (sheet .entry)))) ⌝ }
+    ensures right { λ _. ⌜ ((k n : ℕ) → verdict (now (sheet .entry)) ≡ Accepted k n → Right (now (sheet .entry)) k n) ⌝ }
+{
+    give_verdict(checker::check_sheet(sheet), found, values)
+}
+
+// How many bytes the rows take; they end where the trailer begins.
+#[no_mangle]
+pub extern "C" fn physica_sheet_rows(sheet: &[u8]) -> usize
+    ensures count { λ r. ⌜ r ≡ length (rowsPart (now (sheet .entry))) ⌝ }
+    ensures place { λ r. ⌜ take r (drop (length (now (sheet .entry)) - (trailerLength + r)) (now (sheet .entry))) ≡ rowsPart (now (sheet .entry)) ⌝ }
+{
+    let rows = readers::sheet_rows(sheet);
+    rows.len()
+}
+
+const ROW_LENGTH: usize = 64;
+
+// The eight numbers of row i, and 8; or 0 where there is none.
+#[no_mangle]
+pub extern "C" fn physica_sheet_row(sheet: &[u8], i: usize, out: &mut [f64; 8]) -> usize
+    ensures count { λ r. ⌜ r ≡ rowCount (rowPart (now (sheet .entry)) i) ⌝ }
+    ensures out { λ _. ⌜ now (out .exit) ≡ rowAfter (rowPart (now (sheet .entry)) i) (now (out .entry)) ⌝ }
+{
+    let row = readers::sheet_row(sheet, i);
+    if row.len() < ROW_LENGTH {
+        return 0;
+    }
+    let numbers = row_numbers(row);
+    *out = numbers;
+    8
+}

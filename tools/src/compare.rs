@@ -1,0 +1,455 @@
+//! compare [--count NUMBER,PRISM,MESH,SHEET] SEED..: asks the library and the reference build the same, and prints a table: call, inputs, differences.
+//! NUMBER inputs for each call on numbers and vectors, PRISM prisms, MESH meshes (each for check_mesh and, with a station, for polyhedron), SHEET sheets
+//! (each written, then damaged and checked), for each seed. The exit status is 1 if anything differs.
+use both::*;
+use std::collections::BTreeMap;
+
+struct Random(u64);
+impl Random {
+    fn next(&mut self) -> u64 {
+        self.0 = self.0.wrapping_add(0x9e37_79b9_7f4a_7c15);
+        let z = (self.0 ^ (self.0 >> 30)).wrapping_mul(0xbf58_476d_1ce4_e5b9);
+        let z = (z ^ (z >> 27)).wrapping_mul(0x94d0_49bb_1331_11eb);
+        z ^ (z >> 31)
+    }
+    fn below(&mut self, n: usize) -> usize {
+        (self.next() % n as u64) as usize
+    }
+    fn chance(&mut self, one_in: usize) -> bool {
+        self.below(one_in) == 0
+    }
+    /// From 0 to 1.
+    fn unit(&mut self) -> f64 {
+        (self.next() >> 11) as f64 / (1u64 << 53) as f64
+    }
+    fn between(&mut self, a: f64, b: f64) -> f64 {
+        a + (b - a) * self.unit()
+    }
+    fn pick<T: Copy>(&mut self, xs: &[T]) -> T {
+        xs[self.below(xs.len())]
+    }
+    /// Any magnitude between two powers of ten.
+    fn magnitude(&mut self, low: f64, high: f64) -> f64 {
+        10f64.powf(self.between(low, high))
+    }
+    fn signed(&mut self, x: f64) -> f64 {
+        if self.chance(2) { -x } else { x }
+    }
+}
+
+const SPECIAL: [f64; 26] = [
+    0.0, -0.0, 1.0, -1.0, 0.5, 2.0, 5e-324, -5e-324, f64::MIN_POSITIVE, 2.225073858507201e-308, f64::MAX, f64::MIN, f64::INFINITY, f64::NEG_INFINITY, f64::NAN,
+    f64::EPSILON, 1e9, -1e9, 1000000000.0000001, -1000000000.0000001, 0.9999999999999999, 1.0000000000000002, 1e-6, 9.999999999999999e-7, 1e308, 1e-308,
+];
+
+/// Special numbers, any bits, any magnitude, whole numbers, numbers near each other.
+fn number(r: &mut Random) -> f64 {
+    match r.below(32) {
+        0 => r.pick(&SPECIAL),
+        1 => f64::from_bits(r.next()),
+        2 | 3 => { let x = r.magnitude(-300.0, 300.0); r.signed(x) }
+        4..=9 => { let x = r.magnitude(-12.0, 9.0); r.signed(x) }
+        10..=13 => r.below(9) as f64 - 4.0,
+        14 | 15 => { let x = 1.0 + r.between(-1e-9, 1e-9); r.signed(x) }
+        _ => r.between(-2.0, 2.0),
+    }
+}
+
+/// As `number`, most of them above zero.
+fn positive(r: &mut Random) -> f64 {
+    let x = number(r);
+    if r.chance(16) { x } else { x.abs() }
+}
+
+fn numbers(r: &mut Random, name: &str, n: usize) -> Vec<f64> {
+    match name {
+        "carlson_rc" | "carlson_rf" | "carlson_rd" | "carlson_rj" => {
+            let mut a: Vec<f64> = (0..n).map(|_| positive(r)).collect();
+            // the second argument of R_C and the fourth of R_J may be below zero
+            if (name == "carlson_rc" || name == "carlson_rj") && r.chance(3) {
+                a[n - 1] = -a[n - 1];
+            }
+            a
+        }
+        "complete_elliptic" => vec![match r.below(8) { 0 => number(r), 1 => 1.0 - r.magnitude(-17.0, 0.0), _ => r.unit() }],
+        "ring" | "ellipsoid_factors" | "cel" => (0..n).map(|_| positive(r)).collect(),
+        _ => {
+            let mut a: Vec<f64> = (0..n).map(|_| if r.chance(64) { number(r) } else { let x = r.magnitude(-3.0, 6.0); r.signed(x) }).collect();
+            // radii
+            for (call, at) in [("sphere", 6), ("cylinder", 9)] {
+                if name == call && !r.chance(16) {
+                    a[at] = a[at].abs();
+                }
+            }
+            // axes of length zero, and just not
+            if name == "cylinder" && r.chance(64) {
+                let k = r.pick(&[0.0, -0.0, 1e-170, 1e-160, 5e-324]);
+                (6..9).for_each(|i| a[i] = k);
+            }
+            a
+        }
+    }
+}
+
+/// Station, min, max: inside, on faces, edges and corners and their extensions, near, far, needles and plates, limits.
+fn prism(r: &mut Random) -> Vec<f64> {
+    let size = r.magnitude(-3.0, 5.0);
+    let mut a = vec![0.0; 9];
+    for i in 0..3 {
+        let side = size * match r.below(6) { 0 => r.magnitude(-4.0, 0.0), 1 => 1.0, _ => r.between(0.2, 2.0) };
+        a[3 + i] = if r.chance(3) { 0.0 } else { r.between(-1.0, 1.0) * size };
+        a[6 + i] = a[3 + i] + side;
+    }
+    let distance = r.magnitude(-3.0, 4.0);
+    for i in 0..3 {
+        let (lo, hi) = (a[3 + i], a[6 + i]);
+        a[i] = match r.below(9) {
+            0 => lo,
+            1 => hi,
+            2 => (lo + hi) * 0.5,
+            3 => r.between(lo, hi),
+            4 => hi + distance * (hi - lo),
+            5 => lo - distance * size,
+            _ => r.between(-1.0, 1.0) * distance * size,
+        };
+    }
+    match r.below(50) {
+        // one number of any kind
+        0 => { let i = r.below(9); a[i] = number(r); }
+        // a thin plate seen from close by
+        1 => a = vec![0.0, 0.0, r.magnitude(-3.0, 1.0), -1e4, -1e4, -r.magnitude(-6.0, -2.0), 1e4, 1e4, 0.0],
+        // sides at the limit
+        2 => { let i = r.below(3); a[6 + i] = a[3 + i] + r.pick(&[1e-6, 9.99e-7, 1.01e-6, 0.0]); }
+        _ => {}
+    }
+    a
+}
+
+// ---- meshes
+
+fn flat(points: &[V3]) -> Vec<f64> {
+    points.concat()
+}
+
+/// n corners about the z axis and two tips.
+fn bipyramid(n: usize) -> (Vec<V3>, Vec<[u32; 3]>) {
+    let mut v: Vec<V3> = (0..n).map(|k| { let a = std::f64::consts::TAU * k as f64 / n as f64; [a.cos(), a.sin(), 0.0] }).collect();
+    v.extend([[0.0, 0.0, 1.0], [0.0, 0.0, -1.0]]);
+    let (m, top, bottom) = (n as u32, n as u32, n as u32 + 1);
+    let f = (0..m).flat_map(|k| [[k, (k + 1) % m, top], [(k + 1) % m, k, bottom]]).collect();
+    (v, f)
+}
+
+fn cube() -> (Vec<V3>, Vec<[u32; 3]>) {
+    let v = (0..8).map(|i| [(i & 1) as f64, (i >> 1 & 1) as f64, (i >> 2) as f64]).collect();
+    let quads = [[0, 2, 3, 1], [4, 5, 7, 6], [0, 1, 5, 4], [2, 6, 7, 3], [0, 4, 6, 2], [1, 3, 7, 5]];
+    (v, quads.iter().flat_map(|q: &[u32; 4]| [[q[0], q[1], q[2]], [q[0], q[2], q[3]]]).collect())
+}
+
+/// A closed body: a simple one with faces split, stretched, moved and numbered anew.
+fn closed(r: &mut Random) -> (Vec<V3>, Vec<[u32; 3]>) {
+    let (mut v, mut f) = match r.below(5) {
+        0 => (vec![[0.0; 3], [1.0, 0.0, 0.0], [0.0, 1.0, 0.0], [0.0, 0.0, 1.0]], vec![[0, 2, 1], [0, 1, 3], [0, 3, 2], [1, 2, 3]]),
+        1 => cube(),
+        2 => { let n = r.below(6) + 3; bipyramid(n) }
+        3 => { let n = r.below(60) + 10; bipyramid(n) }
+        _ => bipyramid(4),
+    };
+    for _ in 0..r.below(12) {
+        // a face becomes three about a new vertex
+        let k = r.below(f.len());
+        let [a, b, c] = f[k];
+        let p: V3 = core::array::from_fn(|i| (v[a as usize][i] + v[b as usize][i] + v[c as usize][i]) / 3.0 + if r.chance(2) { 0.0 } else { r.between(-0.05, 0.1) });
+        let n = v.len() as u32;
+        v.push(p);
+        f[k] = [a, b, n];
+        f.extend([[b, c, n], [c, a, n]]);
+    }
+    if r.chance(4) {
+        v.insert(0, [r.between(-9.0, 9.0), 0.0, 0.0]);
+        f.iter_mut().flatten().for_each(|i| *i += 1);
+    }
+    if r.chance(2) {
+        let (s, t): (V3, V3) = (core::array::from_fn(|_| r.magnitude(-2.0, 3.0)), core::array::from_fn(|_| r.between(-3.0, 3.0)));
+        v.iter_mut().for_each(|p| *p = core::array::from_fn(|i| p[i] * s[i] + t[i]));
+    }
+    if r.chance(2) {
+        let mut to: Vec<u32> = (0..v.len() as u32).collect();
+        (1..to.len()).rev().for_each(|i| to.swap(i, r.below(i + 1)));
+        let mut w = v.clone();
+        (0..v.len()).for_each(|i| w[to[i] as usize] = v[i]);
+        f.iter_mut().flatten().for_each(|i| *i = to[*i as usize]);
+        v = w;
+        (1..f.len()).rev().for_each(|i| f.swap(i, r.below(i + 1)));
+        f.iter_mut().for_each(|g| g.rotate_left(r.below(3)));
+    }
+    (v, f)
+}
+
+fn mesh(r: &mut Random) -> Mesh {
+    let (v, f) = closed(r);
+    let (mut verts, mut faces) = (flat(&v), f.concat());
+    let mut room = faces.len() + r.below(4);
+    let k = r.below(faces.len() / 3);
+    match r.below(24) {
+        0 => { faces.drain(3 * k..3 * k + 3); }
+        1 => faces.swap(3 * k, 3 * k + 1),
+        2 => { let g = faces[3 * k..3 * k + 3].to_vec(); faces.extend(g); room += 3; }
+        3 => { let j = r.below(3); faces[3 * k + j] = r.below(v.len() + 2) as u32; }
+        4 => faces.chunks_mut(3).for_each(|g| g.swap(0, 1)),
+        5 => { let (a, b) = (r.below(v.len()), r.below(v.len())); (0..3).for_each(|i| verts[3 * a + i] = verts[3 * b + i]); }
+        6 => { let i = r.below(verts.len()); verts[i] = number(r); }
+        7 => { verts.pop(); }
+        8 => { faces.pop(); }
+        9 => room = faces.len().saturating_sub(1 + r.below(3)),
+        10 => { faces.clear(); }
+        11 => { let axis = r.below(3); (0..v.len()).for_each(|i| verts[3 * i + axis] = 0.0); }
+        12 => { let i = r.below(faces.len()); faces[i] = r.next() as u32; }
+        _ => {}
+    }
+    Mesh { verts, faces, room }
+}
+
+/// Inside, on vertices, edges and faces, near and far, about the hand-over.
+fn station(r: &mut Random, verts: &[f64], faces: &[u32]) -> V3 {
+    let v = points(verts);
+    if v.is_empty() {
+        return [number(r), 0.0, 1.0];
+    }
+    let of = |i: u32| v.get(i as usize).copied().unwrap_or(v[0]);
+    let n = v.len() as f64;
+    let centre: V3 = core::array::from_fn(|i| v.iter().map(|p| p[i]).sum::<f64>() / n);
+    let size = v.iter().flat_map(|p| (0..3).map(|i| (p[i] - centre[i]).abs()).collect::<Vec<_>>()).fold(0.0, f64::max);
+    let (a, b, c) = match faces.len() {
+        0..=2 => (v[0], v[0], v[0]),
+        m => { let k = r.below(m / 3); (of(faces[3 * k]), of(faces[3 * k + 1]), of(faces[3 * k + 2])) }
+    };
+    match r.below(12) {
+        0 => if v.len() > 60 && r.chance(2) { v[v.len() - 1] } else { a },
+        1 => { let t = r.pick(&[0.5, 0.25, 2.0, -1.0]); core::array::from_fn(|i| a[i] + t * (b[i] - a[i])) }
+        2 => core::array::from_fn(|i| a[i] * 0.25 + b[i] * 0.25 + c[i] * 0.5),
+        3 => centre,
+        4 => { let i = r.below(3); let mut p = centre; p[i] = number(r); p }
+        5 | 6 => { let d = size * r.between(4.0, 11.0); let u: V3 = core::array::from_fn(|_| r.between(-1.0, 1.0)); core::array::from_fn(|i| centre[i] + d * u[i]) }
+        _ => { let d = size * r.magnitude(-3.0, 3.0); core::array::from_fn(|i| centre[i] + d * r.between(-1.0, 1.0)) }
+    }
+}
+
+// ---- sheets
+
+fn sheet(r: &mut Random) -> Sheet {
+    let prismatic = r.chance(3);
+    let (kind, mesh) = if prismatic {
+        let a = prism(r);
+        (2, Mesh { verts: a[3..].to_vec(), faces: vec![], room: r.below(3) })
+    } else {
+        let (v, f) = closed(r);
+        let (verts, faces) = (flat(&v), f.concat());
+        let room = faces.len() + r.below(3);
+        (1, Mesh { verts, faces, room })
+    };
+    let mut stations = Vec::new();
+    for _ in 0..r.pick(&[0, 1, 1, 2, 3]) {
+        let far = r.chance(3);
+        let p = station(r, &mesh.verts, &mesh.faces);
+        // far from what makes a row infinite, most of the time
+        stations.extend(p.map(|x| if far || r.chance(2) { x } else { x * 1.37 + 0.011 }));
+    }
+    let mut vector = || -> V3 { core::array::from_fn(|_| if r.chance(24) { number(r) } else { r.between(-5.0, 5.0) * r.pick(&[1.0, 1e-5, 1e4]) }) };
+    let (magnetisation, ambient) = (vector(), vector());
+    let room = sheet_length(mesh.verts.len() / 3, mesh.faces.len() / 3, stations.len() / 3) + r.below(9);
+    let mut s = Sheet { kind, mesh, magnetisation, ambient, stations, room };
+    match r.below(24) {
+        0 => s.kind = r.pick(&[0, 1, 2, 3, u32::MAX]),
+        1 => { s.stations.pop(); }
+        2 => s.room = s.room.saturating_sub(9 + r.below(20)),
+        3 => { let m = mesh_of(r); s.room += 24 * 99 + 36 * 200; s.mesh = m; s.kind = 1; }
+        4 => { if let Some(x) = s.stations.last_mut() { *x = number(r); } }
+        5 => s.mesh.room = s.mesh.room.saturating_sub(1 + r.below(4)),
+        _ => {}
+    }
+    s
+}
+fn mesh_of(r: &mut Random) -> Mesh {
+    mesh(r)
+}
+
+/// A change in some part of a sheet, or none.
+fn damaged(r: &mut Random, sheet: &[u8]) -> Vec<u8> {
+    let mut b = sheet.to_vec();
+    if b.len() < 80 {
+        return b;
+    }
+    let t = b.len() - 80;
+    let u32_at = |b: &[u8], i: usize| u32::from_le_bytes(b[i..i + 4].try_into().unwrap()) as usize;
+    let (v, f, s) = (u32_at(&b, t + 4), u32_at(&b, t + 8), u32_at(&b, t + 12));
+    let (faces, order, mates, stations) = (24 * v, 24 * v + 12 * f, 24 * v + 24 * f, 24 * v + 36 * f);
+    let rows = stations + 24 * s;
+    // one bit, or one number, between two places
+    let hit = |r: &mut Random, from: usize, to: usize, width: usize, b: &mut Vec<u8>| {
+        if from + width > to || to > b.len() {
+            return;
+        }
+        let at = from + width * r.below((to - from) / width);
+        match r.below(3) {
+            0 => b[at + r.below(width)] ^= 1 << r.below(8),
+            1 => { let x = if width == 4 { (r.below(3 * f + 2) as u32).to_le_bytes().to_vec() } else { number(r).to_bits().to_le_bytes().to_vec() }; b[at..at + width].copy_from_slice(&x); }
+            _ => { let other = from + width * r.below((to - from) / width); let x = b[other..other + width].to_vec(); b[at..at + width].copy_from_slice(&x); }
+        }
+    };
+    match r.below(20) {
+        0 => { let n = b.len(); let i = r.below(n); b[i] ^= 1 << r.below(8); }
+        1 => hit(r, 0, faces, 8, &mut b),
+        2 => hit(r, faces, order, 4, &mut b),
+        3 => hit(r, order, mates, 4, &mut b),
+        4 => hit(r, mates, stations, 4, &mut b),
+        5 | 6 => hit(r, stations, rows, 8, &mut b),
+        7 | 8 => hit(r, rows, t, 8, &mut b),
+        9 => hit(r, t, t + 16, 4, &mut b),
+        10 => hit(r, t + 16, t + 64, 8, &mut b),
+        11 => hit(r, t + 64, t + 72, 8, &mut b),
+        12 => hit(r, t + 72, t + 80, 8, &mut b),
+        13 => { let n = r.below(b.len() + 1); b.truncate(n); }
+        14 => { let n = r.below(99); b.extend(vec![0; n]); }
+        // two entries of the order list, or of the mates, exchanged
+        15 if f > 0 => { let (i, j) = (4 * r.below(3 * f), 4 * r.below(3 * f)); let o = r.pick(&[order, mates]); (0..4).for_each(|k| b.swap(o + i + k, o + j + k)); }
+        // a station at a vertex
+        16 if s > 0 && v > 0 => { let (i, j) = (24 * r.below(v), stations + 24 * r.below(s)); let p = b[i..i + 24].to_vec(); b[j..j + 24].copy_from_slice(&p); }
+        // a face's corners exchanged, with the order list and mates of the new faces
+        17 if f > 0 => {
+            let k = r.below(f);
+            let mut list: Vec<u32> = b[faces..order].chunks_exact(4).map(|x| u32::from_le_bytes(x.try_into().unwrap())).collect();
+            if r.chance(2) { list.chunks_mut(3).for_each(|g| g.swap(0, 1)) } else { list.swap(3 * k, 3 * k + 1) }
+            let lists = [list.clone(), order_list(&list), both::mates(&list)].concat();
+            lists.iter().enumerate().for_each(|(i, x)| b[faces + 4 * i..faces + 4 * i + 4].copy_from_slice(&x.to_le_bytes()));
+        }
+        _ => {}
+    }
+    b
+}
+
+/// Sheets that the writer refuses, made all the same: a fan of 65 edges, a plate that needs a 33rd bisection, flat and inverted bodies, sides below the limit.
+fn forced(r: &mut Random) -> Vec<u8> {
+    let (kind, verts, faces, p) = match r.below(5) {
+        0 => { let (v, f) = bipyramid(64 + r.below(3)); let p = v[v.len() - 2]; (1, flat(&v), f.concat(), p) }
+        1 => (2, vec![-1e4, -1e4, -1e-3, 1e4, 1e4, 0.0], vec![], [0.0, 0.0, 0.1]),
+        2 => { let (mut v, f) = cube(); v.iter_mut().for_each(|q| q[2] = 0.0); (1, flat(&v), f.concat(), [9.0; 3]) }
+        3 => { let (v, mut f) = closed(r); f.iter_mut().for_each(|g| g.swap(0, 1)); (1, flat(&v), f.concat(), [9.0; 3]) }
+        _ => (2, vec![0.0, 0.0, 0.0, 1.0, 1.0, r.pick(&[1e-6, 9e-7, 0.0, -1.0])], vec![], [9.0; 3]),
+    };
+    let s = Sheet { kind, mesh: Mesh { verts, faces, room: 0 }, magnetisation: [1.0, 2.0, -2.0], ambient: [0.0, 3.0, 4.0], stations: p.to_vec(), room: 0 };
+    let v = &s.mesh.verts;
+    let volume = if kind == 2 { (v[3] - v[0]) * (v[4] - v[1]) * (v[5] - v[2]) } else { surface(v, &s.mesh.faces).unwrap_or(0.0) };
+    sheet_bytes(&s, &[[0.0; 8]], volume)
+}
+
+// ---- the table
+
+#[derive(Default)]
+struct Tally {
+    inputs: u64,
+    differ: u64,
+    numbers: BTreeMap<u32, u64>,
+    nan: u64,
+}
+
+struct Table(Vec<(String, Tally)>);
+impl Table {
+    fn add(&mut self, call: &str, here: &Answer, reference: &Answer, input: impl Fn() -> String) {
+        let at = match self.0.iter().position(|(n, _)| n == call) {
+            Some(at) => at,
+            None => { self.0.push((call.into(), Tally::default())); self.0.len() - 1 }
+        };
+        let t = &mut self.0[at].1;
+        t.inputs += 1;
+        *t.numbers.entry(reference.number).or_default() += 1;
+        t.nan += (reference.number == 0 && reference.numbers.iter().any(|&x| !f64::from_bits(x).is_finite())) as u64;
+        if here != reference {
+            t.differ += 1;
+            if t.differ <= 3 {
+                println!("DIFFER {call} {}\n  here      {here:x?}\n  reference {reference:x?}", input());
+            }
+        }
+    }
+}
+
+fn hex(a: &[f64]) -> String {
+    a.iter().map(|x| format!("{:016x}", x.to_bits())).collect::<Vec<_>>().join(" ")
+}
+
+/// Counts at their limits and one over.
+fn limits(table: &mut Table) {
+    let t = [0, 2, 1, 0, 1, 3, 0, 3, 2, 1, 2, 3];
+    let corner = [0.0, 0.0, 0.0, 1.0, 0.0, 0.0, 0.0, 1.0, 0.0, 0.0, 0.0, 1.0];
+    for (v, f, n) in [(20_000, 4, 0), (20_001, 4, 0), (4, 32_768, 0), (4, 32_769, 0), (4, 4, 65_536), (4, 4, 65_537)] {
+        let mut verts = corner.to_vec();
+        verts.resize(3 * v, 0.5);
+        let faces: Vec<u32> = t.iter().copied().cycle().take(3 * f).collect();
+        let m = Mesh { room: faces.len(), verts, faces };
+        table.add("check_mesh", &mesh_here(&m), &mesh_reference(&m), || format!("{v} {f}"));
+        table.add("polyhedron", &polyhedron_here([9.0; 3], &m), &polyhedron_reference([9.0; 3], &m), || format!("{v} {f}"));
+        for room in [0, sheet_length(v, f, n)] {
+            // a station that is refused by 3 ends the work early
+            let mut stations = vec![2.0; 3 * n];
+            stations.first_mut().map(|x| *x = 2e9);
+            let s = Sheet { kind: 1, mesh: m.clone(), magnetisation: [1.0; 3], ambient: [1.0; 3], stations, room };
+            table.add("write_sheet", &write_here(&s), &write_reference(&s), || format!("{v} {f} {n} {room}"));
+            let b = sheet_bytes(&s, &vec![[0.0; 8]; n], 1.0 / 6.0);
+            table.add("check_sheet, sheet_rows, sheet_row", &check_here(&b, n), &check_reference(&b, n), || format!("{v} {f} {n}"));
+        }
+    }
+}
+
+fn run(seed: u64, counts: &[usize], table: &mut Table) {
+    let mut r = Random(seed);
+    for order in (0..=40).chain([255, 65536, u32::MAX]) {
+        table.add("gauss_legendre", &rule_here(order), &rule_reference(order), || order.to_string());
+    }
+    for call in &CALLS {
+        for _ in 0..if call.name == "prism" { counts[1] } else { counts[0] } {
+            let a = if call.name == "prism" { prism(&mut r) } else { numbers(&mut r, call.name, call.takes) };
+            table.add(call.name, &(call.here)(&a), &(call.reference)(&a), || hex(&a));
+        }
+    }
+    for _ in 0..counts[2] {
+        let m = mesh(&mut r);
+        table.add("check_mesh", &mesh_here(&m), &mesh_reference(&m), || format!("{m:?}"));
+        let p = station(&mut r, &m.verts, &m.faces);
+        table.add("polyhedron", &polyhedron_here(p, &m), &polyhedron_reference(p, &m), || format!("{p:?} {m:?}"));
+    }
+    let mut last: Vec<u8> = vec![];
+    for _ in 0..counts[3] {
+        let s = sheet(&mut r);
+        let (here, reference) = (write_here(&s), write_reference(&s));
+        table.add("write_sheet", &here, &reference, || format!("{s:?}"));
+        if reference.number == 0 {
+            last = reference.out[..reference.numbers[0] as usize].to_vec();
+        }
+        let b = if r.chance(30) { forced(&mut r) } else { damaged(&mut r, &last) };
+        let i = r.below(5);
+        table.add("check_sheet, sheet_rows, sheet_row", &check_here(&b, i), &check_reference(&b, i), || format!("{i} {b:?}"));
+    }
+    limits(table);
+}
+
+fn main() {
+    let mut words: Vec<String> = std::env::args().skip(1).collect();
+    let mut counts = vec![10_000, 10_000, 1_000, 1_000];
+    if words.first().map(String::as_str) == Some("--count") {
+        counts = words[1].split(',').map(|w| w.parse().expect("--count NUMBER,PRISM,MESH,SHEET")).collect();
+        assert_eq!(counts.len(), 4, "--count NUMBER,PRISM,MESH,SHEET");
+        words.drain(..2);
+    }
+    start();
+    let mut table = Table(vec![]);
+    let seeds: Vec<u64> = if words.is_empty() { vec![1] } else { words.iter().map(|w| w.parse().expect("a seed is a whole number")).collect() };
+    for &seed in &seeds {
+        run(seed, &counts, &mut table);
+    }
+    println!("seeds {seeds:?}\n\n| call | inputs | differ | not finite | refused |\n|---|---|---|---|---|");
+    for (call, t) in &table.0 {
+        let refused: Vec<String> = t.numbers.iter().filter(|(n, _)| **n != 0).map(|(n, c)| format!("{n}: {c}")).collect();
+        println!("| {call} | {} | {} | {} | {} |", t.inputs, t.differ, t.nan, refused.join(", "));
+    }
+    std::process::exit(table.0.iter().any(|(_, t)| t.differ != 0) as i32);
+}
