@@ -1,9 +1,6 @@
--- Magnetic anomalies of uniformly magnetised bodies, and what a total-field magnetometer reads.
+-- The magnetic anomaly of any uniformly magnetised body, and what a total-field magnetometer reads of it.
 pub mod Answers
 pub mod Limits
-pub mod Matrices
 pub mod Body
 pub mod TotalField
-pub mod Sphere
-pub mod Cylinder
 pub mod WorkedExamples

@@ -6,9 +6,8 @@ use Rattle.doubles.specs.Constants.{2·0}
 use Rattle.refusals.specs.Causes.{unless}
 use Rattle.refusals.specs.Answer.{Answer, value, orAnswer}
 use Rattle.refusals.specs.declared.Refusal.the-variants.{OutOfLimits}
-use Rattle.newtonian.specs.Vectors.{addVectors, dot}
+use Rattle.newtonian.specs.Vectors.{addVectors, dot, norm}
 use Rattle.newtonian.specs.declared.Vector.{Vector}
-use Rattle.anomaly.specs.Matrices.{norm}
 use Rattle.anomaly.specs.Limits.{bothWithinLimits}
 
 unfoldable pub totalFieldOf : Vector → Vector → Float

@@ -5,10 +5,10 @@ use native.Mathlib.Nat.{eq-of-mul-eq-mul-right, one-mul, le-of-suc-le-suc, le-of
 use native.Mathlib.Omega.{arith}
 use mathlib.Core.Bool.{Bool, true, false, not, cond}
 use lib.IntN.{ℤ, pos, _+ℤ_, _-ℤ_, +ℤ-idr}
-use lib.Dec.{T, ltb, eqb, ltb→lt, nltb→le, eqb→eq, not-T, lit≤, le→leb}
+use lib.Dec.{T, ltb, eqb, ltb→lt, nltb→le, eqb→eq, not-T, lit≤}
 use lib.Pow.{pow-add, pow-pos, pow-mono, shl-lt}
 use lib.Count.{trailingZeros}
-use lib.Ieee.{Float, nan, inf, fin, binary64, up, down, minus, size, odd, ofInt, ofBits, toBits, fits, isNan, inFloat}
+use lib.Ieee.{Float, nan, inf, fin, binary64, up, down, minus, size, odd, ofInt, ofBits, toBits, fits, isNan}
 use lib.Ieee.Bits.{ofBits-toBits, is-false}
 use lib.Ieee.Exact.{HasValue, odd-sign}
 use lib.Ieee.Fits.{ofInt-fits, odd-fits, down-pos}
@@ -121,10 +121,6 @@ unfolding isNan
 positive-number nan t = absurd t
 positive-number (inf s) t = tt
 positive-number (fin s m e) t = tt
-
-pub in-float-52 : (n : ℕ) → n < 2 ^ 52 → T (inFloat binary64 (pos n))
-unfolding inFloat
-in-float-52 n h = le→leb n (2 ^ 53) (omega arith)
 
 -- ---- b below 2 ^ 52 as a double
 module _ (b : ℕ) (B : 0 < b) (small : b < 2 ^ 52) where

@@ -2,7 +2,7 @@
 use mathlib.Core.Path.{_≡_, refl, sym, ap, _∙_, subst}
 use Prim.Native.Nat.{ℕ, zero, suc, _*_, _<_}
 use native.Mathlib.Nat.{zero-mul, mul-pos, zero-lt-suc, lt-irrefl, lt-of-lt-of-le}
-use mathlib.Core.Bool.{Bool, true, false, _&&_, _||_, Bool·beq, cond, true≢false, false≢true}
+use mathlib.Core.Bool.{Bool, true, false, cond, true≢false, false≢true}
 use lib.IntN.{ℤ}
 use lib.Dec.{T, ltb→lt, nltb→le, lt→ltb}
 use lib.Ieee.{Float, nan, inf, fin, up, down, ofBits, neg, div, lt, eq}
@@ -10,7 +10,7 @@ use lib.Ieee.Fits.{up-pos}
 use lib.Ieee.Positive.{positive, first-pos}
 use Rattle.doubles.specs.Rounded.{_⊘_}
 use Rattle.doubles.specs.Constants.{0·0, 1·0}
-use Rattle.doubles.proofs.Signs.{is-zero, true→T, false→T}
+use Rattle.doubles.proofs.Signs.{is-zero, zero-equals, true→T, false→T}
 use Rattle.carlson.specs.Logarithm.{lnBy}
 use Rattle.carlson.proofs.LnBits.{pos-test}
 
@@ -26,17 +26,8 @@ ln-positive (inf false) h k = absurd (false≢true h)
 ln-positive (fin true m e) h k = absurd (false≢true k)
 ln-positive (fin false m e) h k = lt→ltb 0 m (cross-pos (0 * down e) m (up e) (zero-mul (down e)) (ltb→lt (0 * down e) (m * up e * 1) (true→T k)))
 
--- a zero equals zero
-zero-eq : (s : Bool) (e : ℤ) → eq (fin s 0 e) 0·0 ≡ true
-unfolding eq ofBits
-zero-eq s e = rw (zero-mul (up e), zero-mul (down e)) (go s)
-  where
-    go : (s : Bool) → (true && (Bool·beq s false || true)) ≡ true
-    go true = refl
-    go false = refl
-
 not-zero : (s : Bool) (m : ℕ) (e : ℤ) → eq (fin s m e) 0·0 ≡ false → 0 < m
-not-zero s zero e h = absurd (true≢false (sym (zero-eq s e) ∙ h))
+not-zero s zero e h = absurd (true≢false (sym (zero-equals s e) ∙ h))
 not-zero s (suc m) e h = zero-lt-suc m
 
 module _ (R_C : Float → Float → Float) where

@@ -1,13 +1,20 @@
 -- The cases of atan2, by the tests of the code. Assumes nothing.
-use mathlib.Core.Path.{_≡_}
+use mathlib.Core.Path.{_≡_, sym, _∙_}
 use mathlib.Core.Bool.{true, false}
-use lib.Ieee.{Float, lt, eq, isNan}
+use lib.Ieee.{Float, lt, eq, ne, isNan}
 use Rattle.doubles.specs.Rounded.{_⊕_, _⊘_}
 use Rattle.doubles.specs.Constants.{0·0, π, π/2}
 use Rattle.doubles.specs.Magnitude.{negative}
+use Rattle.doubles.proofs.Signs.{ne-self}
 use Rattle.carlson.specs.Arctangent.{withSign, atan2By, atan, atan2}
 
-module _ (s c : Float) (p : isNan s ≡ false) (q : isNan c ≡ false) where
+module _ (s c : Float) (s-equals : ne s s ≡ false) (c-equals : ne c c ≡ false) where
+  p : isNan s ≡ false
+  p = sym (ne-self s) ∙ s-equals
+
+  q : isNan c ≡ false
+  q = sym (ne-self c) ∙ c-equals
+
   pub s-zero : eq s 0·0 ≡ true → negative c ≡ true → withSign s π ≡ atan2 s c
   unfolding atan2By atan2
   s-zero a n = simp (p, q, a, n)

@@ -2,7 +2,7 @@
 use Prim.Native.Nat.{ℕ, zero, suc, _+_, _≤_}
 use native.Mathlib.Omega.{arith}
 use native.Mathlib.Nat.{le-trans, le-of-eq, le-add-right}
-use mathlib.Core.Bool.{Bool, true, false, not}
+use mathlib.Core.Bool.{Bool, true, false}
 use mathlib.Core.Path.{_≡_, refl, sym, ap, subst}
 use Rattle.carlson.specs.Rounds.{roundsFrom, rounds}
 
@@ -37,12 +37,3 @@ module _ {S : Type 0} (test : S → Bool) (step : S → S) where
         go : (b : Bool) → test s ≡ b → count (rounds test step n (step s)) ≤ count (step s) + n → count (rounds test step (suc n) s) ≤ count s + suc n
         go false t h = le-trans (le-of-eq (ap count (stop (suc n) s t))) (le-add-right (count s) (suc n))
         go true t h = let a = adds s in le-trans (le-of-eq (ap count (one-more (suc n) n s refl t))) (omega arith)
-
--- the code's test is `!b`
-pub false-of-not : (b : Bool) → not b ≡ true → b ≡ false
-false-of-not true e = sym e
-false-of-not false e = refl
-
-pub true-of-not : (b : Bool) → not b ≡ false → b ≡ true
-true-of-not true e = refl
-true-of-not false e = sym e

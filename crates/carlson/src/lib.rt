@@ -6,7 +6,7 @@ ghost use lib.Dec.{T};
 ghost use lib.Ieee.{binary64, ofInt, minus};
 ghost use lib.Ieee.Positive.{positive};
 ghost use Rattle.roots.specs.Root.{Root};
-ghost use Rattle.carlson.specs.CarlsonLoop.{maxRounds, quarter, loopTest};
+ghost use Rattle.carlson.specs.CarlsonLoop.{maxRounds, loopTest};
 ghost use Rattle.carlson.specs.Rounds.{rounds};
 ghost use Rattle.carlson.specs.Rc.{duplicate, testAt, series, rcAbove, times, rc, carlsonRc, rcValue};
 ghost use Rattle.carlson.specs.Logarithm.{lnAt, ln};
@@ -20,10 +20,6 @@ pub const MAX_ROUNDS: u32 = 64;
 const RC_FACTOR: f64 = 78.8959690786408;
 
 const LN_2: f64 = 0.6931471805599453;
-
-const PI: f64 = 3.141592653589793;
-
-const FRAC_PI_2: f64 = 1.5707963267948966;
 
 // What the duplication carries from round to round: Carlson's x, y and A at round n, and f = 4^-n.
 pub struct Duplication {
@@ -41,13 +37,6 @@ pub enum Integral {
 }
 
 // ---- R_C
-
-// A quarter of w: every division by 4 of the rounds.
-pub fn quarter(w: f64) -> f64
-    ensures { λ r. ⌜ r ≡ quarter w ⌝ }
-{
-    w / 4.0
-}
 
 // 4^-n Q ≥ |A|, where f is 4^-n.
 pub fn loop_test(q: f64, a: f64, f: f64) -> bool
@@ -73,10 +62,10 @@ fn duplicate(s: Duplication) -> Duplication
 {
     let lambda = 2.0 * root_of(s.x) * roots::root(s.y) + s.y;
     Duplication {
-        x: quarter(s.x + lambda),
-        y: quarter(s.y + lambda),
-        a: quarter(s.a + lambda),
-        f: quarter(s.f),
+        x: (s.x + lambda) / 4.0,
+        y: (s.y + lambda) / 4.0,
+        a: (s.a + lambda) / 4.0,
+        f: s.f / 4.0,
         n: s.n + 1,
     }
 }
@@ -278,7 +267,7 @@ pub fn atan(z: f64) -> f64
     if doubles::abs(z) <= 1.0 {
         return atan_within(z);
     }
-    with_sign(z, FRAC_PI_2) - atan_within(1.0 / z)
+    with_sign(z, doubles::FRAC_PI_2) - atan_within(1.0 / z)
 }
 
 // The angle of the point (c, s).
@@ -293,16 +282,16 @@ pub fn atan2(s: f64, c: f64) -> f64
     }
     if s == 0.0 {
         if doubles::is_sign_negative(c) {
-            return with_sign(s, PI);
+            return with_sign(s, doubles::PI);
         }
         return s;
     }
     if c == 0.0 {
-        return with_sign(s, FRAC_PI_2);
+        return with_sign(s, doubles::FRAC_PI_2);
     }
     let a = atan(s / c);
     if c < 0.0 {
-        return a + with_sign(s, PI);
+        return a + with_sign(s, doubles::PI);
     }
     a
 }

@@ -2,20 +2,15 @@
 use mathlib.Core.Path.{_≡_, refl, sym, _∙_}
 use mathlib.Core.List.{List}
 use Prim.Native.Nat.{ℕ}
-use native.Mathlib.Omega.{arith}
 use Rattle.refusals.specs.declared.Refusal.{Refusal}
 use Rattle.refusals.specs.Causes.{orElse}
 use Rattle.refusals.specs.declared.Cause.{Cause}
 use Rattle.refusals.specs.declared.Cause.the-variants.{None, Refused}
 use Rattle.refusals.proofs.Causes.{both}
-use Rattle.layout.specs.LittleEndian.{IsBytes}
 use Rattle.sheet.specs.Checker.{kindIn, stationsIn, checkerCause, openingCause, verdict}
-use Rattle.sheet.specs.Promises.{Right}
-use Rattle.sheet.specs.Demand3.{right}
-use Rattle.sheet.specs.declared.Verdict.{Verdict}
 use Rattle.sheet.specs.declared.Verdict as verdicts
 use Rattle.sheet.specs.Reading.{stations-read}
-use Rattle.checker.specs.Stages.{listsCause, volumeCause, stationsCause, bodyCause}
+use Rattle.body_checks.specs.Stages.{listsCause, volumeCause, stationsCause, bodyCause}
 
 in-turn : (a b c : Cause) → orElse (orElse a b) c ≡ orElse a (orElse b c)
 in-turn None b c = refl
@@ -38,14 +33,3 @@ module _ (b : List ℕ) where
   pub accepting : checkerCause b ≡ None → verdicts.the-variants.Accepted (kindIn b) (stationsIn b) ≡ verdict b
   unfolding verdict
   accepting e = rw e
-
-  -- a refusal accepts nothing, and what is accepted is right
-  pub not-accepted : (r : Refusal) (k n : ℕ) → _≡_ {A = Verdict} (verdicts.the-variants.Refused r) (verdicts.the-variants.Accepted k n) → Right b k n
-  not-accepted r k n e = absurd (let z : _≡_ {A = ℕ} 0 1 = cc in omega arith)
-
-  pub accepted : IsBytes b → checkerCause b ≡ None → (k n k′ n′ : ℕ) → k ≡ kindIn b → n ≡ stationsIn b
-      → _≡_ {A = Verdict} (verdicts.the-variants.Accepted k n) (verdicts.the-variants.Accepted k′ n′) → Right b k′ n′
-  accepted h e k n k′ n′ p q w =
-      let u : k′ ≡ kindIn b = cc in
-      let v : n′ ≡ stationsIn b = cc in
-      rw (u, v) (right b h e)

@@ -1,17 +1,17 @@
 -- The field of a rectangular prism by a Gauss-Legendre cubature of 1/r over it, with the roundings in the order of the Rust. At unit Gρ, with d a point of the
 -- prism less the station and r = |d|, the sums over the points of
 --
---   V: w/r,   gradient: w d/r³,   Hessian: w (3 d dᵀ - r²)/r⁵
+--   V: w/r,   gradient: w d/r³,   Hessian: w (3 d dᵀ - r² I)/r⁵
 --
 -- p is the station; lo and hi are the corners min and max. Definitions only.
 use Prim.Native.Nat.{ℕ}
 use lib.Ieee.{Float}
 use Rattle.doubles.specs.Rounded.{_⊕_, _⊖_, _⊗_, _⊘_}
-use Rattle.doubles.specs.Constants.{0·0, 0·5, 3·0}
+use Rattle.doubles.specs.Constants.{0·5, 3·0}
 use Rattle.roots.specs.Root.{Root}
 use Rattle.legendre.specs.GaussLegendre.{node, weight}
 use Rattle.newtonian.specs.Fold.{Fold}
-use Rattle.newtonian.specs.Vectors.{dot, zeroField}
+use Rattle.newtonian.specs.Vectors.{dot, diagonal, zeroField}
 use Rattle.newtonian.specs.declared.Vector.{Vector}
 use Rattle.newtonian.specs.declared.Newtonian.{Newtonian}
 
@@ -21,12 +21,12 @@ use Rattle.newtonian.specs.declared.Newtonian.{Newtonian}
 abbrev pub gradientTerms : Vector → Float → Vector → Float → Vector
 gradientTerms g w d q = record { x = g .x ⊕ w ⊗ d .x ⊘ q; y = g .y ⊕ w ⊗ d .y ⊘ q; z = g .z ⊕ w ⊗ d .z ⊘ q }
 
--- a row t of the Hessian, t + w (3 u d - δ) / q; u is the row's entry of d, and δ is r² on the diagonal and 0 beside it
+-- a row t of the Hessian, t + w (3 u d - e) / q; u is the row's entry of d, and e the row of r² I
 abbrev pub rowTerms : Vector → Float → Float → Vector → Vector → Float → Vector
-rowTerms t w u d δ q = record {
-  x = t .x ⊕ w ⊗ (3·0 ⊗ u ⊗ d .x ⊖ δ .x) ⊘ q;
-  y = t .y ⊕ w ⊗ (3·0 ⊗ u ⊗ d .y ⊖ δ .y) ⊘ q;
-  z = t .z ⊕ w ⊗ (3·0 ⊗ u ⊗ d .z ⊖ δ .z) ⊘ q;
+rowTerms t w u d e q = record {
+  x = t .x ⊕ w ⊗ (3·0 ⊗ u ⊗ d .x ⊖ e .x) ⊘ q;
+  y = t .y ⊕ w ⊗ (3·0 ⊗ u ⊗ d .y ⊖ e .y) ⊘ q;
+  z = t .z ⊕ w ⊗ (3·0 ⊗ u ⊗ d .z ⊖ e .z) ⊘ q;
 }
 
 -- the sums f with the terms of the point d, of weight w
@@ -36,13 +36,14 @@ addPoint w d f =
     let r = Root r² in
     let r³ = r² ⊗ r in
     let r⁵ = r² ⊗ r² ⊗ r in
+    let e = diagonal r² in
     record {
       potential = f .potential ⊕ w ⊘ r;
       gradient = gradientTerms (f .gradient) w d r³;
       hessian = record {
-        x = rowTerms (f .hessian .x) w (d .x) d (record { x = r²; y = 0·0; z = 0·0 }) r⁵;
-        y = rowTerms (f .hessian .y) w (d .y) d (record { x = 0·0; y = r²; z = 0·0 }) r⁵;
-        z = rowTerms (f .hessian .z) w (d .z) d (record { x = 0·0; y = 0·0; z = r² }) r⁵;
+        x = rowTerms (f .hessian .x) w (d .x) d (e .x) r⁵;
+        y = rowTerms (f .hessian .y) w (d .y) d (e .y) r⁵;
+        z = rowTerms (f .hessian .z) w (d .z) d (e .z) r⁵;
       };
     }
 

@@ -18,44 +18,34 @@ fn gradient_terms(g: Vector, w: f64, d: Vector, q: f64) -> Vector
     }
 }
 
-fn row_terms(t: Vector, w: f64, u: f64, d: Vector, delta: Vector, q: f64) -> Vector
-    ensures { λ r. ⌜ r ≡ rowTerms t w u d delta q ⌝ }
+fn row_terms(t: Vector, w: f64, u: f64, d: Vector, e: Vector, q: f64) -> Vector
+    ensures { λ r. ⌜ r ≡ rowTerms t w u d e q ⌝ }
 {
     Vector {
-        x: t.x + w * (3.0 * u * d.x - delta.x) / q,
-        y: t.y + w * (3.0 * u * d.y - delta.y) / q,
-        z: t.z + w * (3.0 * u * d.z - delta.z) / q,
+        x: t.x + w * (3.0 * u * d.x - e.x) / q,
+        y: t.y + w * (3.0 * u * d.y - e.y) / q,
+        z: t.z + w * (3.0 * u * d.z - e.z) / q,
     }
 }
 
+// The sums f with the terms of the point d, of weight w.
 pub fn add_point(w: f64, d: Vector, f: Newtonian) -> Newtonian
     ensures { λ r. ⌜ r ≡ addPoint w d f ⌝ }
 {
     let r2 = newtonian::dot(d, d);
     let r = roots::root(r2);
     let r5 = r2 * r2 * r;
-    let dx = Vector {
-        x: r2,
-        y: 0.0,
-        z: 0.0,
-    };
-    let dy = Vector {
-        x: 0.0,
-        y: r2,
-        z: 0.0,
-    };
-    let dz = Vector {
-        x: 0.0,
-        y: 0.0,
-        z: r2,
-    };
+    let e = newtonian::diagonal(r2);
+    let ex = e.x;
+    let ey = e.y;
+    let ez = e.z;
     Newtonian {
         potential: f.potential + w / r,
         gradient: gradient_terms(f.gradient, w, d, r2 * r),
         hessian: Hessian {
-            x: row_terms(f.hessian.x, w, d.x, d, dx, r5),
-            y: row_terms(f.hessian.y, w, d.y, d, dy, r5),
-            z: row_terms(f.hessian.z, w, d.z, d, dz, r5),
+            x: row_terms(f.hessian.x, w, d.x, d, ex, r5),
+            y: row_terms(f.hessian.y, w, d.y, d, ey, r5),
+            z: row_terms(f.hessian.z, w, d.z, d, ez, r5),
         },
     }
 }

@@ -1,4 +1,3 @@
 -- Demagnetising factors of an ellipsoid, the magnetisation that they allow, and the Königsberger ratio.
 pub mod Ellipsoid
 pub mod Magnetisation
-pub mod WorkedExamples

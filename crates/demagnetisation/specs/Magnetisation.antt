@@ -9,10 +9,10 @@ use Rattle.doubles.specs.Magnitude.{withinLimits}
 use Rattle.refusals.specs.Causes.{unless}
 use Rattle.refusals.specs.Answer.{Answer, value, orAnswer}
 use Rattle.refusals.specs.declared.Refusal.the-variants.{OutOfLimits}
+use Rattle.newtonian.specs.Vectors.{norm, diagonal}
 use Rattle.newtonian.specs.declared.Vector.{Vector}
 use Rattle.newtonian.specs.declared.Hessian.{Hessian}
 use Rattle.anomaly.specs.Limits.{bothWithinLimits, hessianWithinLimits}
-use Rattle.anomaly.specs.Matrices.{norm, diagonal}
 use Rattle.linalg.specs.declared.Row.{Row}
 use Rattle.linalg.specs.Gauss.{rows, gauss}
 
@@ -22,6 +22,7 @@ use Rattle.linalg.specs.Gauss.{rows, gauss}
 unfoldable pub equation : Float → Vector → Vector → Float → Float → Row
 equation χ e n h r = record { x = e .x ⊕ χ ⊗ n .x; y = e .y ⊕ χ ⊗ n .y; z = e .z ⊕ χ ⊗ n .z; right = χ ⊗ h ⊕ r }
 
+-- M, from the three equations
 unfoldable pub magnetisationOf : Float → Vector → Vector → Hessian → Vector
 magnetisationOf χ H₀ Mr N =
     let I = diagonal 1·0 in

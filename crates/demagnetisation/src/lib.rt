@@ -1,6 +1,7 @@
 // Demagnetising factors of an ellipsoid, the magnetisation that they allow, and the Königsberger ratio.
 use anomaly::NumberAnswer;
 use anomaly::VectorAnswer;
+use anomaly::both_within_limits;
 use carlson::Integral;
 use linalg::Row;
 use newtonian::Hessian;
@@ -18,7 +19,7 @@ fn factor(x: f64, y: f64, z: f64) -> Integral
     ensures { λ r. ⌜ r ≡ factor x y z ⌝ }
 {
     let w = x * y * z / 3.0;
-    let d = special::rd(x * x, y * y, z * z);
+    let d = rf_rd::rd(x * x, y * y, z * z);
     match d {
         Integral::Refused(r) => Integral::Refused(r),
         Integral::Value(v) => Integral::Value(w * v),
@@ -51,13 +52,7 @@ pub fn factors_of(a: f64, b: f64, c: f64) -> VectorAnswer
 fn all_positive(a: f64, b: f64, c: f64) -> bool
     ensures { λ r. ⌜ r ≡ allPositive a b c ⌝ }
 {
-    if 0.0 < a {
-        if 0.0 < b {
-            return 0.0 < c;
-        }
-        return false;
-    }
-    false
+    (0.0 < a) & ((0.0 < b) & (0.0 < c))
 }
 
 // The demagnetising factors of a uniformly magnetised ellipsoid along its semi-axes a, b and c; or refused by 3,
@@ -93,7 +88,7 @@ fn equation(chi: f64, e: Vector, n: Vector, h: f64, r: f64) -> Row
 pub fn magnetisation_of(chi: f64, h0: Vector, remanent: Vector, n: Hessian) -> Vector
     ensures { λ r. ⌜ r ≡ magnetisationOf chi h0 remanent n ⌝ }
 {
-    let e = anomaly::diagonal(1.0);
+    let e = newtonian::diagonal(1.0);
     let ex = e.x;
     let ey = e.y;
     let ez = e.z;
@@ -109,13 +104,8 @@ pub fn magnetisation_of(chi: f64, h0: Vector, remanent: Vector, n: Hessian) -> V
 fn magnetisation_within_limits(chi: f64, h0: Vector, remanent: Vector, n: Hessian) -> bool
     ensures { λ r. ⌜ r ≡ magnetisationWithinLimits chi h0 remanent n ⌝ }
 {
-    if anomaly::both_within_limits(h0, remanent) {
-        if anomaly::hessian_within_limits(n) {
-            return doubles::within_limits(chi);
-        }
-        return false;
-    }
-    false
+    both_within_limits(h0, remanent)
+        & (anomaly::hessian_within_limits(n) & doubles::within_limits(chi))
 }
 
 // The magnetisation (A/m) of a body of susceptibility chi (SI) and remanence `remanent` (A/m) in the field h0 (A/m),
@@ -135,18 +125,15 @@ pub fn magnetisation(chi: f64, h0: Vector, remanent: Vector, n: Hessian) -> Vect
 pub fn koenigsberger_of(remanent: Vector, chi: f64, h0: Vector) -> f64
     ensures { λ r. ⌜ r ≡ koenigsbergerOf remanent chi h0 ⌝ }
 {
-    anomaly::norm(remanent) / (chi * anomaly::norm(h0))
+    newtonian::norm(remanent) / (chi * newtonian::norm(h0))
 }
 
 // The ratio of remanent to induced magnetisation; or refused by 3.
 pub fn koenigsberger(remanent: Vector, chi: f64, h0: Vector) -> NumberAnswer
     ensures { λ r. ⌜ numberAnswer r ≡ koenigsberger remanent chi h0 ⌝ }
 {
-    if anomaly::both_within_limits(remanent, h0) {
-        if doubles::within_limits(chi) {
-            return NumberAnswer::Value(koenigsberger_of(remanent, chi, h0));
-        }
-        return NumberAnswer::Refused(Refusal::OutOfLimits);
+    if both_within_limits(remanent, h0) & doubles::within_limits(chi) {
+        return NumberAnswer::Value(koenigsberger_of(remanent, chi, h0));
     }
     NumberAnswer::Refused(Refusal::OutOfLimits)
 }

@@ -1,11 +1,11 @@
 -- Zeros, signs and NaNs by comparisons, and the sign of a rounded fraction. Assumes nothing.
 use mathlib.Core.Path.{_≡_, refl, sym, ap, _∙_, subst}
 use Prim.Native.Nat.{ℕ, zero, suc, _+_, _-_, _*_, _/_, _%_, _^_, _<_, compare}
-use native.Mathlib.Nat.{lt-irrefl, mul-one, one-mul, mul-pos, zero-lt-suc, zero-mul, pow-succ', le-of-lt, le-trans}
+use native.Mathlib.Nat.{lt-irrefl, mul-one, one-mul, mul-pos, zero-lt-suc, zero-mul, pow-succ', le-of-lt}
 use native.Mathlib.Omega.{arith}
 use mathlib.Core.Bool.{Bool, true, false, not, _&&_, _||_, cond, Bool·beq, false≢true}
 use lib.IntN.{ℤ, pos, negsuc}
-use lib.Dec.{T, not-T, eqb-refl, ltb, eqb, eqb→eq, ltb→lt, le→leb, lit≤}
+use lib.Dec.{T, not-T, eqb-refl, ltb, eqb, eqb→eq, ltb→lt, le→leb}
 use lib.Pow.{pow-pos}
 use lib.Ieee.{Float, nan, inf, fin, Format, binary64, prec, emax, low, up, down, minus, size, nearest, odd, units, round, fits, level, ofBits, ofInt, inFloat, neg, lt, eq, ne, isNan}
 use lib.Ieee.Fits.{up-pos, and-l, round-is}
@@ -49,6 +49,15 @@ is-zero (fin s zero e) h = (s, e, refl)
 is-zero (fin s (suc m) e) h =
     absurd (not-level (suc m) e (zero-lt-suc m) (eqb→eq (suc m * up e * 1) (0 * down e) (and-l (eqb (suc m * up e * 1) (0 * down e)) (Bool·beq s false || eqb (suc m * up e * 1) 0) (true→T h))))
 
+-- and a zero equals zero
+pub zero-equals : (s : Bool) (e : ℤ) → eq (fin s 0 e) 0·0 ≡ true
+unfolding eq ofBits
+zero-equals s e = rw (zero-mul (up e), zero-mul (down e)) (go s)
+  where
+    go : (s : Bool) → (true && (Bool·beq s false || true)) ≡ true
+    go true = refl
+    go false = refl
+
 -- a value above zero is neither zero nor below it
 pub above-zero : (x : Float) → T (positive x) → (eq x 0·0 ≡ false) × (lt x 0·0 ≡ false)
 unfolding ofBits lt eq
@@ -90,10 +99,10 @@ neg-round f s a c =
 
 -- ---- a whole number as a float
 
--- a cast of a number of 16 digits is exact
-pub in-float : (n : ℕ) → n < 2 ^ 16 → T (inFloat binary64 (pos n))
+-- a cast of a number of 53 digits is exact
+pub in-float : (n : ℕ) → n < 2 ^ 53 → T (inFloat binary64 (pos n))
 unfolding inFloat
-in-float n h = le→leb n (2 ^ 53) (le-trans (le-of-lt h) (lit≤ tt))
+in-float n h = le→leb n (2 ^ 53) (le-of-lt h)
 
 -- a - b, for a below b, is -(b - a)
 pub minus-neg : (f : Format) (a b : ℕ) → a < b → neg (ofInt f (pos (b - a))) ≡ ofInt f (minus a b)

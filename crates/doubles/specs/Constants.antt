@@ -45,6 +45,9 @@ abbrev pub 9·0 : Float
 abbrev pub 10·0 : Float
 10·0 = ofBits binary64 0x4024_0000_0000_0000
 
+abbrev pub 24·0 : Float
+24·0 = ofBits binary64 0x4038_0000_0000_0000
+
 abbrev pub 10⁹ : Float
 10⁹ = ofBits binary64 0x41cd_cd65_0000_0000
 
@@ -60,6 +63,9 @@ abbrev pub 10⁻¹² : Float
 
 abbrev pub 10⁻¹³ : Float
 10⁻¹³ = ofBits binary64 0x3d3c_25c2_6849_7682
+
+abbrev pub 10⁻¹⁴ : Float
+10⁻¹⁴ = ofBits binary64 0x3d06_849b_86a1_2b9b
 
 abbrev pub 10⁻¹⁵ : Float
 10⁻¹⁵ = ofBits binary64 0x3cd2_03af_9ee7_5616

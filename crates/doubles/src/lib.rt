@@ -1,8 +1,15 @@
-// Bits, magnitude, sign, order and finiteness of an f64, on every bit pattern.
+// Constants; bits, magnitude, sign, order and finiteness of an f64, on every bit pattern.
 ghost use mathlib.Core.Path.{_≡_};
 ghost use lib.Ieee.{binary64, ofBits, toBits};
 ghost use lib.Ieee.Scale.{finite};
 ghost use Rattle.doubles.specs.Magnitude.{abs, max, min, negative, withinLimits};
+
+// The Rust's constants: π, π/2, and the distance from 1 to the next double, 2^-52.
+pub const PI: f64 = 3.141592653589793;
+
+pub const FRAC_PI_2: f64 = 1.5707963267948966;
+
+pub const EPSILON: f64 = 2.220446049250313e-16;
 
 // The double of a bit pattern. Every NaN pattern is the one NaN.
 pub fn of_bits(b: u64) -> f64

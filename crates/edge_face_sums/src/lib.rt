@@ -4,7 +4,6 @@ ghost use Prim.Native.Nat.{_*_, _<_};
 ghost use lib.ListN.{length};
 ghost use Rattle.newtonian.specs.Field.{answerOf};
 ghost use Rattle.mesh.specs.Surface.{Body, faceCount};
-ghost use Rattle.on_edge.specs.OnEdge.{edgeLimit};
 ghost use Rattle.on_edge.specs.Block.{Sized};
 ghost use Rattle.edge_face_sums.specs.EdgeFaceSums.{Sums, triangleOf, addSide, addTriangle, sumsOf, edgeFaceSums};
 ghost use Rattle.edge_face_sums.specs.Carried.{Carries};

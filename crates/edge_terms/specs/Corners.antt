@@ -1,17 +1,12 @@
 -- Lengths and directions of the faces and edges of a polyhedron, and its corners as a station sees them, with the roundings in the order of the Rust's `edge_face_sums`. Definitions only.
 use Prim.Native.Nat.{ℕ}
-use lib.Ieee.{Float}
 use Rattle.doubles.specs.Rounded.{_⊘_}
-use Rattle.roots.specs.Root.{Root}
-use Rattle.newtonian.specs.Vectors.{difference, dot, cross}
+use Rattle.newtonian.specs.Vectors.{difference, cross, norm}
 use Rattle.newtonian.specs.declared.Vector.{Vector}
 use Rattle.edge_terms.specs.declared.Corner.{Corner}
 use Rattle.edge_terms.specs.declared.Side.{Side}
 
--- |a|, and a / |a|
-unfoldable pub norm : Vector → Float
-norm a = Root (dot a a)
-
+-- a / |a|
 unfoldable pub unit : Vector → Vector
 unit a = record { x = a .x ⊘ norm a; y = a .y ⊘ norm a; z = a .z ⊘ norm a }
 

@@ -1,6 +1,6 @@
 // What one face and one edge of a polyhedron add to the field, by the edge and face sums of Werner & Scheeres (1997).
 ghost use mathlib.Core.Path.{_≡_};
-ghost use Rattle.edge_terms.specs.Corners.{norm, unit, sideOf, seen};
+ghost use Rattle.edge_terms.specs.Corners.{unit, sideOf, seen};
 ghost use Rattle.edge_terms.specs.SolidAngle.{passesThrough, windingAngle, solidAngle};
 ghost use Rattle.edge_terms.specs.EdgeTerms.{gap, logarithm, dyad, times, addTimes, subTimes, addFaceTerms, addEdgeTerms, mean, symmetric};
 use newtonian::Hessian;
@@ -24,16 +24,10 @@ pub struct Corner {
     pub l: f64,
 }
 
-fn norm(a: Vector) -> f64
-    ensures { λ r. ⌜ r ≡ norm a ⌝ }
-{
-    roots::root(dot(a, a))
-}
-
 pub fn unit(a: Vector) -> Vector
     ensures { λ r. ⌜ r ≡ unit a ⌝ }
 {
-    let n = norm(a);
+    let n = newtonian::norm(a);
     Vector {
         x: a.x / n,
         y: a.y / n,
@@ -50,7 +44,7 @@ pub fn side_of(n: Vector, a: Vector, b: Vector, from: u32, to: u32) -> Side
         from,
         to,
         normal: unit(cross(edge, n)),
-        length: norm(edge),
+        length: newtonian::norm(edge),
     }
 }
 
@@ -59,7 +53,10 @@ pub fn seen(p: Vector, q: Vector) -> Corner
     ensures { λ c. ⌜ c ≡ seen p q ⌝ }
 {
     let r = difference(q, p);
-    Corner { r, l: norm(r) }
+    Corner {
+        r,
+        l: newtonian::norm(r),
+    }
 }
 
 // An edge passes through the station if an end lies there, or the station lies between the ends.

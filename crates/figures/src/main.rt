@@ -5,8 +5,6 @@ use newtonian::Field;
 use newtonian::Newtonian;
 use newtonian::Vector;
 
-const PI: f64 = 3.141592653589793;
-
 // The gravitational constant, in SI units (CODATA 2018).
 const G: f64 = 6.6743e-11;
 
@@ -32,7 +30,7 @@ fn bouguer(f: Newtonian) {
         b"Bouguer gradient: 0.11197 mGal/m\n",
     );
     say(
-        within(-g.z / (2.0 * PI), 1.0, 1e-6),
+        within(-g.z / (2.0 * doubles::PI), 1.0, 1e-6),
         b"Bouguer gradient: 2 pi\n",
     );
 }
@@ -58,7 +56,10 @@ fn main() {
         vector(1.0, 2.0, 3.0),
     );
     if let Field::At(f) = inside {
-        say(within(trace(f), -4.0 * PI, 1e-13), b"trace inside: -4 pi\n");
+        say(
+            within(trace(f), -4.0 * doubles::PI, 1e-13),
+            b"trace inside: -4 pi\n",
+        );
     }
     let outside = prism::prism(
         vector(0.3, 0.2, 3.6),

@@ -1,12 +1,13 @@
 // Flips every bit of the sheets in the file stdin, each after its length in 4 bytes, one bit after the other. For
-// each sheet it prints the verdict on the sheet itself, and how many of the damaged ones the checker accepts: those
+// each sheet it prints the verdict on the sheet itself, and how many of the flipped ones the checker accepts: those
 // with a bit flipped in what was given (kind, counts, body, magnetisation, ambient field, stations), which may be
-// the sheet of another input, and those with a bit flipped in the rest.
-ghost use mathlib.Core.Path.{_≡_};
+// the sheet of another input, and those with a bit flipped in the rest. An accepted one has to be, byte for byte,
+// what the writer writes of the input that it holds: it prints for how many that is so.
 ghost use Prim.Native.Nat.{_≤_, _<_};
 ghost use lib.ListN.{length};
-use libc::STDIN_FILENO;
 use libc::STDOUT_FILENO;
+use replay::Tally;
+use replay::lines;
 use sheet::Verdict;
 
 fn is_accepted(sheet: &[u8]) -> bool {
@@ -16,93 +17,86 @@ fn is_accepted(sheet: &[u8]) -> bool {
     }
 }
 
-// 2 to the k.
-fn power(k: u8) -> u8
-    requires { ⌜ k < 8 ⌝ }
-{
-    match k {
-        0 => 1,
-        1 => 2,
-        2 => 4,
-        3 => 8,
-        4 => 16,
-        5 => 32,
-        6 => 64,
-        _ => 128,
-    }
-}
+const GIVEN: usize = 0;
 
-// Whether byte i of a sheet of n bytes is among those that were given: vertices and faces, stations, and the
-// trailer's first 64 bytes.
-fn is_given(sheet: &[u8], i: usize) -> bool
+const REST: usize = 1;
+
+// Whether byte i of a sheet was given, as are vertices and faces, stations, and the trailer's first 64 bytes.
+fn part_of(sheet: &[u8], i: usize) -> usize
     requires { ⌜ 80 ≤ length (now sheet) ⌝ }
 {
     let at = sheet.len() - 80;
     if at <= i {
-        return i < at + 64;
+        return if i < at + 64 { GIVEN } else { REST };
     }
     let v = layout::u32_at(sheet, at + 4) as usize;
     let f = layout::u32_at(sheet, at + 8) as usize;
     let s = layout::u32_at(sheet, at + 12) as usize;
     if i < 24 * v + 12 * f {
-        return true;
+        return GIVEN;
     }
     if i < 24 * v + 36 * f {
-        return false;
+        return REST;
     }
-    i < 24 * v + 36 * f + 24 * s
+    if i < 24 * v + 36 * f + 24 * s {
+        return GIVEN;
+    }
+    REST
 }
 
-// Whether the sheet is accepted with bit k of byte i flipped. The sheet is as it was afterwards.
-fn accepted_flipped(sheet: &mut [u8], i: usize, k: u8) -> bool
-    requires { ⌜ (i < length (now sheet)) × (k < 8) ⌝ }
+// Counts a flipped sheet, if it is accepted, as one that agrees if the writer writes it anew.
+fn counted(t: Tally, sheet: &[u8], part: usize) -> Tally
+    requires { ⌜ length (now sheet) ≤ 16384 ⌝ }
 {
+    if !is_accepted(sheet) {
+        return t;
+    }
+    lines::count(t, part as u64, rewrite::is_rewritten(sheet))
+}
+
+// The sheet with bit k of byte i flipped. It is as it was afterwards.
+fn flip(t: Tally, sheet: &mut [u8], i: usize, k: u8) -> Tally
+    requires { ⌜ (80 ≤ length (now sheet)) × (length (now sheet) ≤ 16384) × (i < length (now sheet)) × (k < 8) ⌝ }
+{
+    let part = part_of(sheet, i);
     let before = sheet[i];
-    sheet[i] = before ^ power(k);
-    let accepted = is_accepted(sheet);
+    sheet[i] = before ^ (1u8 << k);
+    let more = counted(t, sheet, part);
     sheet[i] = before;
-    accepted
+    more
 }
 
-// How many of the eight sheets with a bit of byte i flipped are accepted.
-fn accepted_at(sheet: &mut [u8], i: usize) -> u64
-    requires { ⌜ i < length (now sheet) ⌝ }
+// All sheets with one bit flipped.
+fn flip_all(sheet: &mut [u8]) -> Tally
+    requires { ⌜ (80 ≤ length (now sheet)) × (length (now sheet) ≤ 16384) ⌝ }
 {
-    let mut n = 0u64;
-    let mut k = 0u8;
-    while k < 8 {
-        if accepted_flipped(sheet, i, k) {
-            n = std::num::wrapping_add_u64(n, 1);
-        }
-        k += 1;
+    let mut t = lines::nothing();
+    let bits = 8 * sheet.len();
+    for j in 0..bits {
+        t = flip(t, sheet, j / 8, (j % 8) as u8);
     }
-    n
+    t
 }
 
-// The same, but 0 for a byte of the other sort.
-fn accepted_in(sheet: &mut [u8], i: usize, given: bool) -> u64
-    requires { ⌜ (80 ≤ length (now sheet)) × (i < length (now sheet)) ⌝ }
+// How many are accepted, and how many of these are written anew.
+fn report_part(t: Tally, part: usize)
+    requires { ⌜ part < 8 ⌝ }
 {
-    if is_given(sheet, i) == given {
-        return accepted_at(sheet, i);
-    }
-    0
+    let accepted = t.compared[part];
+    io::print_decimal(STDOUT_FILENO, accepted);
+    io::write_all(
+        STDOUT_FILENO,
+        b" accepted, of which the writer writes anew ",
+    );
+    io::print_decimal(
+        STDOUT_FILENO,
+        std::num::wrapping_sub_u64(accepted, t.differ[part]),
+    );
 }
 
-// How many of those with a bit flipped in what was given, or in the rest, are accepted.
-fn count(sheet: &mut [u8], given: bool) -> u64
-    requires { ⌜ 80 ≤ length (now sheet) ⌝ }
+fn report(sheet: &mut [u8])
+    requires { ⌜ length (now sheet) ≤ 16384 ⌝ }
 {
-    let mut n = 0u64;
-    let mut i = 0;
-    while i < sheet.len() {
-        n = std::num::wrapping_add_u64(n, accepted_in(sheet, i, given));
-        i += 1;
-    }
-    n
-}
-
-fn report(sheet: &mut [u8]) {
     if sheet.len() < 80 {
         return;
     }
@@ -118,44 +112,35 @@ fn report(sheet: &mut [u8]) {
             b" bytes, refused; with a bit flipped in what was given: ",
         );
     }
-    io::print_decimal(STDOUT_FILENO, count(sheet, true));
-    io::write_all(STDOUT_FILENO, b" accepted; in the rest: ");
-    io::print_decimal(STDOUT_FILENO, count(sheet, false));
-    io::write_all(STDOUT_FILENO, b" accepted\n");
+    let t = flip_all(sheet);
+    report_part(t, GIVEN);
+    io::write_all(STDOUT_FILENO, b"; in the rest: ");
+    report_part(t, REST);
+    io::write_all(STDOUT_FILENO, b"\n");
 }
 
-fn small(n: u32) -> usize
-    ensures { λ r. ⌜ r ≤ 16384 ⌝ }
+// Reads as many bytes as `sheet` has.
+fn read_and_report(sheet: &mut [u8])
+    requires { ⌜ length (now sheet) ≤ 16384 ⌝ }
 {
-    if n <= 16384 { n as usize } else { 0 }
+    if lines::read_line(sheet) {
+        report(sheet);
+    }
 }
 
-// Reads as many bytes as `bytes` has.
-fn flip_all(bytes: &mut [u8]) {
-    if io::read_full(STDIN_FILENO, bytes) < bytes.len() {
-        return;
-    }
-    report(bytes);
-}
-
-// Whether there was a sheet.
-fn next_sheet() -> bool {
-    let mut head = [0u8; 4];
-    if io::read_full(STDIN_FILENO, &mut head) < 4 {
-        return false;
-    }
-    let n = small(layout::u32_at(&head, 0));
+// The sheet that this length begins.
+fn next_sheet(head: &[u8; 4]) {
+    let n = lines::small(layout::u32_at(head, 0));
     let mut bytes = io::large_buffer();
-    flip_all(&mut bytes[..n]);
-    true
+    read_and_report(&mut bytes[..n]);
 }
 
 fn main() {
-    let mut left = 1000u32;
-    while 0 < left {
-        if !next_sheet() {
+    for _ in 0..1000usize {
+        let mut head = [0u8; 4];
+        if !lines::read_line(&mut head) {
             break;
         }
-        left -= 1;
+        next_sheet(&head);
     }
 }

@@ -1,3 +1,2 @@
 -- The first causes of refusal.
-pub mod Arguments
 pub mod CountCause

@@ -4,4 +4,4 @@ pub mod Numbers
 pub mod Bits
 pub mod Lists
 pub mod Files
-mod Turns
+pub mod Turns

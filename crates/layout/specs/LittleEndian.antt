@@ -6,12 +6,12 @@ use lib.Dec.{T}
 use lib.ListN.{getD}
 use lib.Ieee.{Float, nan, binary64, fits, toBits, ofBits}
 
--- n as k bytes
+-- the k lowest bytes of n, which are all of it where n < 256^k
 unfoldable pub bytes : ℕ → ℕ → List ℕ
 bytes zero n = []
 bytes (suc k) n = n % 256 ∷ bytes k (n / 256)
 
--- the number in the k bytes of b from place i on
+-- the number in the k bytes of b from place i on, where past the end of b there are zeros
 unfoldable pub number : ℕ → List ℕ → ℕ → ℕ
 number zero b i = 0
 number (suc k) b i = getD b i 0 + 256 * number k b (suc i)
@@ -26,7 +26,7 @@ unfoldable pub unpack : ℕ → ℕ → List ℕ → ℕ → List ℕ
 unpack k zero b i = []
 unpack k (suc n) b i = number k b i ∷ unpack k n b (i + k)
 
--- doubles as their 64 bits, and back
+-- doubles as their 64 bits, and back; the bits of every NaN give the one NaN
 abbrev pub bits : List Float → List ℕ
 bits xs = map (toBits binary64) xs
 

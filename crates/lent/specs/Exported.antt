@@ -1,4 +1,5 @@
 -- What an exported call takes, returns and writes, as lists of numbers, from the public call's answer. Definitions only.
+use mathlib.Core.Path.{_≡_}
 use mathlib.Core.List.{List, [], _∷_}
 use Prim.Native.Nat.{ℕ}
 use lib.ListN.{getD}
@@ -7,7 +8,6 @@ use Rattle.refusals.specs.Numbers.{numberOf, valuesOf}
 use Rattle.refusals.specs.Answer.{Answer, value, refused}
 use Rattle.newtonian.specs.declared.Vector.{Vector}
 use Rattle.newtonian.specs.declared.Hessian.{Hessian}
-use Rattle.newtonian.specs.declared.Newtonian.{Newtonian}
 use Rattle.rings.specs.declared.Complete.{Complete}
 use Rattle.rings.specs.declared.RingAverage.{RingAverage}
 use Rattle.legendre.specs.declared.Rule.{Rule}
@@ -29,18 +29,6 @@ hessianOf t = record {
 
 abbrev pub itself : {T : Type 0} → T → T
 itself x = x
-
-abbrev pub vectorNumbers : Vector → List Float
-vectorNumbers v = v .x ∷ v .y ∷ v .z ∷ []
-
--- potential, gradient, Hessian row by row
-unfoldable pub fieldNumbers : Newtonian → List Float
-fieldNumbers f =
-    let g = f .gradient in
-    let x = f .hessian .x in
-    let y = f .hessian .y in
-    let z = f .hessian .z in
-    f .potential ∷ g .x ∷ g .y ∷ g .z ∷ x .x ∷ x .y ∷ x .z ∷ y .x ∷ y .y ∷ y .z ∷ z .x ∷ z .y ∷ z .z ∷ []
 
 -- K and E
 abbrev pub completeNumbers : Complete → List Float
@@ -78,3 +66,16 @@ two (v ∷ w ∷ vs) = v ∷ w ∷ []
 abbrev pub valuesAfter : {S : Type 0} → Answer S → List ℕ
 valuesAfter (value v) = 0 ∷ 0 ∷ []
 valuesAfter (refused r) = two (valuesOf r)
+
+-- ---- a call's contract
+
+-- for the answer a the call returns r, and what was lent as `before` is `after`
+pub record Gives {S T : Type 0} (numbers : S → T) (a : Answer S) (r : ℕ) (before after : T) : Type 0 where
+  pub number : r ≡ returned a
+  pub out : after ≡ written numbers a before
+
+-- the same of a call that writes a refusal's values too
+pub record GivesValues {S T : Type 0} (numbers : S → T) (a : Answer S) (r : ℕ) (before after : T) (vs : List ℕ) : Type 0 where
+  pub number : r ≡ returned a
+  pub out : after ≡ written numbers a before
+  pub values : vs ≡ valuesAfter a

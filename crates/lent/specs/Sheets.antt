@@ -7,12 +7,11 @@ use lib.ListN.{length}
 use lib.Ieee.{Float}
 use Rattle.refusals.specs.Answer.{Answer, value, refused}
 use Rattle.layout.specs.LittleEndian.{unpack, doubles}
-use Rattle.sheet.specs.Input.{SheetInput}
+use Rattle.sheet.specs.Input.{SheetInput, inputOf}
 use Rattle.sheet.specs.Bytes.{sheetLength}
 use Rattle.sheet.specs.Writer.{writerCause}
 use Rattle.sheet.specs.declared.Verdict.{Verdict}
 use Rattle.sheet.specs.declared.Verdict as verdicts
-use Rattle.input_causes.specs.Arguments.{inputOf}
 use Rattle.writer.specs.Written.{writtenOf}
 use Rattle.writer.specs.declared.Written.{Written}
 use Rattle.writer.specs.declared.Written as writtens

@@ -6,14 +6,14 @@ ghost use Rattle.anomaly.specs.Answers.{vectorAnswer, numberAnswer};
 ghost use Rattle.mesh.specs.Check as check;
 ghost use Rattle.lent.specs.Answers.{integralAnswer, completeAnswer, ringAnswer, ruleAnswer};
 ghost use Rattle.lent.specs.Sheets.{writtenAnswer, verdictAnswer};
-ghost use Rattle.lent.specs.Exported.{vectorNumbers, fieldNumbers, completeNumbers, ringNumbers, nodesOf, weightsOf, itself, two, returned, written, valuesAfter};
+ghost use Rattle.newtonian.specs.Vectors.{vectorNumbers, fieldNumbers};
+ghost use Rattle.lent.specs.Exported.{completeNumbers, ringNumbers, nodesOf, weightsOf, itself, two, Gives, GivesValues};
 use anomaly::NumberAnswer;
 use anomaly::VectorAnswer;
 use carlson::Integral;
 use legendre::Rule;
 use mesh::Mesh;
 use newtonian::Field;
-use newtonian::Newtonian;
 use refusals::Cause;
 use refusals::Refusal;
 use refusals::number;
@@ -51,8 +51,7 @@ fn values_of(r: Refusal) -> [u32; 2]
 }
 
 pub fn give_integral(a: Integral, out: &mut f64) -> u32
-    ensures number { λ n. ⌜ n ≡ returned (integralAnswer a) ⌝ }
-    ensures out { λ _. ⌜ now (out .exit) ≡ written itself (integralAnswer a) (now (out .entry)) ⌝ }
+    ensures { λ n. ⌜ Gives itself (integralAnswer a) n (now (out .entry)) (now (out .exit)) ⌝ }
 {
     match a {
         Integral::Value(x) => {
@@ -64,8 +63,7 @@ pub fn give_integral(a: Integral, out: &mut f64) -> u32
 }
 
 pub fn give_number(a: NumberAnswer, out: &mut f64) -> u32
-    ensures number { λ n. ⌜ n ≡ returned (numberAnswer a) ⌝ }
-    ensures out { λ _. ⌜ now (out .exit) ≡ written itself (numberAnswer a) (now (out .entry)) ⌝ }
+    ensures { λ n. ⌜ Gives itself (numberAnswer a) n (now (out .entry)) (now (out .exit)) ⌝ }
 {
     match a {
         NumberAnswer::Value(x) => {
@@ -77,8 +75,7 @@ pub fn give_number(a: NumberAnswer, out: &mut f64) -> u32
 }
 
 pub fn give_vector(a: VectorAnswer, out: &mut [f64; 3]) -> u32
-    ensures number { λ n. ⌜ n ≡ returned (vectorAnswer a) ⌝ }
-    ensures out { λ _. ⌜ now (out .exit) ≡ written vectorNumbers (vectorAnswer a) (now (out .entry)) ⌝ }
+    ensures { λ n. ⌜ Gives vectorNumbers (vectorAnswer a) n (now (out .entry)) (now (out .exit)) ⌝ }
 {
     match a {
         VectorAnswer::Value(v) => {
@@ -90,8 +87,7 @@ pub fn give_vector(a: VectorAnswer, out: &mut [f64; 3]) -> u32
 }
 
 pub fn give_complete(a: CompleteIntegrals, out: &mut [f64; 2]) -> u32
-    ensures number { λ n. ⌜ n ≡ returned (completeAnswer a) ⌝ }
-    ensures out { λ _. ⌜ now (out .exit) ≡ written completeNumbers (completeAnswer a) (now (out .entry)) ⌝ }
+    ensures { λ n. ⌜ Gives completeNumbers (completeAnswer a) n (now (out .entry)) (now (out .exit)) ⌝ }
 {
     match a {
         CompleteIntegrals::Values(c) => {
@@ -103,8 +99,7 @@ pub fn give_complete(a: CompleteIntegrals, out: &mut [f64; 2]) -> u32
 }
 
 pub fn give_ring(a: RingAnswer, out: &mut [f64; 3]) -> u32
-    ensures number { λ n. ⌜ n ≡ returned (ringAnswer a) ⌝ }
-    ensures out { λ _. ⌜ now (out .exit) ≡ written ringNumbers (ringAnswer a) (now (out .entry)) ⌝ }
+    ensures { λ n. ⌜ Gives ringNumbers (ringAnswer a) n (now (out .entry)) (now (out .exit)) ⌝ }
 {
     match a {
         RingAnswer::Value(r) => {
@@ -116,9 +111,8 @@ pub fn give_ring(a: RingAnswer, out: &mut [f64; 3]) -> u32
 }
 
 pub fn give_rule(rule: Rule, nodes: &mut [f64; 16], weights: &mut [f64; 16]) -> u32
-    ensures number { λ n. ⌜ n ≡ returned (ruleAnswer rule) ⌝ }
-    ensures nodes { λ _. ⌜ now (nodes .exit) ≡ written nodesOf (ruleAnswer rule) (now (nodes .entry)) ⌝ }
-    ensures weights { λ _. ⌜ now (weights .exit) ≡ written weightsOf (ruleAnswer rule) (now (weights .entry)) ⌝ }
+    ensures nodes { λ n. ⌜ Gives nodesOf (ruleAnswer rule) n (now (nodes .entry)) (now (nodes .exit)) ⌝ }
+    ensures weights { λ n. ⌜ Gives weightsOf (ruleAnswer rule) n (now (weights .entry)) (now (weights .exit)) ⌝ }
 {
     let cause = rule.cause;
     match cause {
@@ -133,39 +127,12 @@ pub fn give_rule(rule: Rule, nodes: &mut [f64; 16], weights: &mut [f64; 16]) -> 
     }
 }
 
-// Potential, gradient, Hessian row by row.
-fn field_numbers(f: Newtonian) -> [f64; 13]
-    ensures { λ r. ⌜ r ≡ fieldNumbers f ⌝ }
-{
-    let g = f.gradient;
-    let x = f.hessian.x;
-    let y = f.hessian.y;
-    let z = f.hessian.z;
-    [
-        f.potential,
-        g.x,
-        g.y,
-        g.z,
-        x.x,
-        x.y,
-        x.z,
-        y.x,
-        y.y,
-        y.z,
-        z.x,
-        z.y,
-        z.z,
-    ]
-}
-
 pub fn give_field(a: Field, out: &mut [f64; 13], values: &mut [u32; 2]) -> u32
-    ensures number { λ n. ⌜ n ≡ returned (answerOf a) ⌝ }
-    ensures out { λ _. ⌜ now (out .exit) ≡ written fieldNumbers (answerOf a) (now (out .entry)) ⌝ }
-    ensures values { λ _. ⌜ now (values .exit) ≡ valuesAfter (answerOf a) ⌝ }
+    ensures { λ n. ⌜ GivesValues fieldNumbers (answerOf a) n (now (out .entry)) (now (out .exit)) (now (values .exit)) ⌝ }
 {
     match a {
         Field::At(f) => {
-            let numbers = field_numbers(f);
+            let numbers = newtonian::field_numbers(f);
             *out = numbers;
             *values = [0, 0];
             0
@@ -179,9 +146,7 @@ pub fn give_field(a: Field, out: &mut [f64; 13], values: &mut [u32; 2]) -> u32
 }
 
 pub fn give_volume(a: Mesh, out: &mut f64, values: &mut [u32; 2]) -> u32
-    ensures number { λ n. ⌜ n ≡ returned (check.answerOf a) ⌝ }
-    ensures out { λ _. ⌜ now (out .exit) ≡ written itself (check.answerOf a) (now (out .entry)) ⌝ }
-    ensures values { λ _. ⌜ now (values .exit) ≡ valuesAfter (check.answerOf a) ⌝ }
+    ensures { λ n. ⌜ GivesValues itself (check.answerOf a) n (now (out .entry)) (now (out .exit)) (now (values .exit)) ⌝ }
 {
     match a {
         Mesh::Volume(x) => {
@@ -198,9 +163,7 @@ pub fn give_volume(a: Mesh, out: &mut f64, values: &mut [u32; 2]) -> u32
 }
 
 pub fn give_written(a: Written, size: &mut usize, values: &mut [u32; 2]) -> u32
-    ensures number { λ n. ⌜ n ≡ returned (writtenAnswer a) ⌝ }
-    ensures size { λ _. ⌜ now (size .exit) ≡ written itself (writtenAnswer a) (now (size .entry)) ⌝ }
-    ensures values { λ _. ⌜ now (values .exit) ≡ valuesAfter (writtenAnswer a) ⌝ }
+    ensures { λ n. ⌜ GivesValues itself (writtenAnswer a) n (now (size .entry)) (now (size .exit)) (now (values .exit)) ⌝ }
 {
     match a {
         Written::Bytes(n) => {
@@ -217,9 +180,7 @@ pub fn give_written(a: Written, size: &mut usize, values: &mut [u32; 2]) -> u32
 }
 
 pub fn give_verdict(a: Verdict, found: &mut [u32; 2], values: &mut [u32; 2]) -> u32
-    ensures number { λ n. ⌜ n ≡ returned (verdictAnswer a) ⌝ }
-    ensures found { λ _. ⌜ now (found .exit) ≡ written itself (verdictAnswer a) (now (found .entry)) ⌝ }
-    ensures values { λ _. ⌜ now (values .exit) ≡ valuesAfter (verdictAnswer a) ⌝ }
+    ensures { λ n. ⌜ GivesValues itself (verdictAnswer a) n (now (found .entry)) (now (found .exit)) (now (values .exit)) ⌝ }
 {
     match a {
         Verdict::Accepted(kind, stations) => {

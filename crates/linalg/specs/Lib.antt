@@ -1,3 +1,2 @@
 -- Linear equations.
 pub mod Gauss
-pub mod WorkedExamples

@@ -1,5 +1,5 @@
 -- Laws that the proofs of the functions share.
 pub mod Scans
-pub mod Flips
-pub mod Work
-pub mod Answers
+mod Faces
+mod Flips
+mod Counts

@@ -93,6 +93,10 @@ surfaceCause v f = orElse (noSuchVertex (vertexCount v) f) (orElse (flippedEdge 
 unfoldable pub orderCause : List Float → List ℕ → List ℕ → Cause
 orderCause v f o = orElse (flippedEdge f o) (orElse (openEdge f o) (orElse (degenerateFace v f) (inverted v f)))
 
+-- 7 and 8, which need no order list
+unfoldable pub facesCause : List Float → List ℕ → Cause
+facesCause v f = orElse (degenerateFace v f) (inverted v f)
+
 -- a cause's refusal, or else the volume
 abbrev pub meshOf : Cause → Float → Mesh
 meshOf Cause.None x = Mesh.Volume x

@@ -3,6 +3,7 @@ ghost use mathlib.Core.Path.{_≡_};
 ghost use Prim.Native.Nat.{_*_, _<_, _≤_};
 ghost use lib.ListN.{length};
 ghost use lib.Dec.{leb};
+ghost use Rattle.lists.specs.Count.{Below};
 ghost use Rattle.orders.specs.Edges.{from, to, occurrences, maxFaces, Faces};
 ghost use Rattle.orders.specs.Order.{orderList, Uses};
 ghost use Rattle.mesh.specs.Check.{outOfLimits, noSuchVertex, flippedEdge, openEdge};
@@ -13,7 +14,6 @@ use orders::edges::reverse;
 use orders::edges::start;
 use orders::mates::mate;
 use orders::order::pass;
-use orders::order::room;
 use refusals::Cause;
 use refusals::Refusal;
 
@@ -47,7 +47,7 @@ pub fn no_such_vertex(vertices: usize, faces: &[u32]) -> Cause
 }
 
 // Cause 5: the first edge in the order list that occurs twice, which stands at the next place too.
-pub(crate) fn flipped_edge(faces: &[u32], order: &[u32]) -> Cause
+pub fn flipped_edge(faces: &[u32], order: &[u32]) -> Cause
     requires { ⌜ Faces (now faces) × (now order ≡ orderList (now faces)) ⌝ }
     ensures { λ r. ⌜ r ≡ flippedEdge (now (faces .entry)) (orderList (now (faces .entry))) ⌝ }
 {
@@ -93,13 +93,11 @@ fn first_open(faces: &[u32], order: &[u32], guesses: &[u32]) -> Cause
 }
 
 // Cause 6: the first edge in the order list whose reverse does not occur. Where every reverse occurs, once, the uses by to and from are the reverses of those by from
-// and to, place by place.
-pub(crate) fn open_edge(faces: &[u32], order: &[u32]) -> Cause
-    requires { ⌜ Faces (now faces) × (now order ≡ orderList (now faces)) ⌝ }
+// and to, place by place. They go into the spare list, with a counter for each vertex.
+pub fn open_edge(faces: &[u32], order: &[u32], counts: &mut [u32], spare: &mut [u32]) -> Cause
+    requires { ⌜ Faces (now faces) × (now order ≡ orderList (now faces)) × Below (now faces) (length (now counts)) × (length (now spare) ≡ length (now faces)) ⌝ }
     ensures { λ r. ⌜ r ≡ openEdge (now (faces .entry)) (orderList (now (faces .entry))) ⌝ }
 {
-    let n = order.len();
-    let mut by_end = room();
-    pass(faces, order, true, &mut by_end[..n]);
-    first_open(faces, order, &by_end[..n])
+    pass(faces, order, true, counts, spare);
+    first_open(faces, order, spare)
 }

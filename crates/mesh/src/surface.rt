@@ -3,12 +3,12 @@ ghost use mathlib.Core.Path.{_≡_};
 ghost use Prim.Native.Nat.{_+_, _*_, _/_, _<_};
 ghost use lib.ListN.{length};
 ghost use Rattle.mesh.specs.Surface.{Body, vertexCount, faceCount, vertex, corner, normal, isZero, faceVolume, volume};
-ghost use Rattle.mesh.specs.Check.{degenerateFace};
+ghost use Rattle.mesh.specs.Check.{facesCause, meshOf};
+use crate::Mesh;
 use newtonian::Vector;
 use newtonian::cross;
 use newtonian::difference;
 use newtonian::dot;
-use refusals::Cause;
 use refusals::Refusal;
 
 // The vertex with number i.
@@ -63,31 +63,22 @@ fn face_volume(verts: &[f64], faces: &[u32], k: usize) -> f64
     dot(corner(verts, faces, k, 0), normal(verts, faces, k)) / 6.0
 }
 
-// Cause 7: the first face whose normal is zero.
-pub fn degenerate_face(verts: &[f64], faces: &[u32]) -> Cause
+// The causes 7 and 8, or else the volume.
+pub fn check_faces(verts: &[f64], faces: &[u32]) -> Mesh
     requires { ⌜ Body (now verts) (now faces) ⌝ }
-    ensures { λ r. ⌜ r ≡ degenerateFace (now (verts .entry)) (now (faces .entry)) ⌝ }
-{
-    let mut k = 0;
-    while k < faces.len() / 3 {
-        if is_zero(normal(verts, faces, k)) {
-            return Cause::Refused(Refusal::Degenerate(k as u32));
-        }
-        k += 1;
-    }
-    Cause::None
-}
-
-// The volume.
-pub fn volume(verts: &[f64], faces: &[u32]) -> f64
-    requires { ⌜ Body (now verts) (now faces) ⌝ }
-    ensures { λ r. ⌜ r ≡ volume (now (verts .entry)) (now (faces .entry)) ⌝ }
+    ensures { λ r. ⌜ r ≡ meshOf (facesCause (now (verts .entry)) (now (faces .entry))) (volume (now (verts .entry)) (now (faces .entry))) ⌝ }
 {
     let mut sum = 0.0;
     let mut k = 0;
     while k < faces.len() / 3 {
+        if is_zero(normal(verts, faces, k)) {
+            return Mesh::Refused(Refusal::Degenerate(k as u32));
+        }
         sum = sum + face_volume(verts, faces, k);
         k += 1;
     }
-    sum
+    if 0.0 < sum {
+        return Mesh::Volume(sum);
+    }
+    Mesh::Refused(Refusal::Inverted)
 }

@@ -2,13 +2,14 @@
 -- lost; a total is the sum with its carry. Definitions only.
 use Prim.Native.Nat.{ℕ, _+_}
 use mathlib.Core.Bool.{cond}
-use mathlib.Core.List.{List, [], _∷_}
+use mathlib.Core.List.{List}
 use lib.ListN.{getD, set, replicate}
 use lib.Ieee.{Float, nan, le}
 use Rattle.doubles.specs.Rounded.{_⊕_, _⊖_}
 use Rattle.doubles.specs.Constants.{0·0}
 use Rattle.doubles.specs.Magnitude.{abs}
 use Rattle.newtonian.specs.Fold.{Fold}
+use Rattle.newtonian.specs.Vectors.{fieldSize}
 use Rattle.newtonian.specs.declared.Vector.{Vector}
 use Rattle.newtonian.specs.declared.Newtonian.{Newtonian}
 use Rattle.neumaier.specs.declared.Pair.{Pair}
@@ -22,21 +23,10 @@ addTerm p x =
       carry = p .carry ⊕ cond (le (abs x) (abs (p .sum))) ((p .sum ⊖ next) ⊕ x) ((x ⊖ next) ⊕ p .sum);
     }
 
--- ---- the thirteen numbers of a field
-
-abbrev pub fieldNumbers : ℕ
-fieldNumbers = 13
-
--- the potential, the gradient, and the Hessian row by row
-unfoldable pub numbersOf : Newtonian → List Float
-numbersOf f =
-    f .potential ∷ f .gradient .x ∷ f .gradient .y ∷ f .gradient .z ∷
-    f .hessian .x .x ∷ f .hessian .x .y ∷ f .hessian .x .z ∷
-    f .hessian .y .x ∷ f .hessian .y .y ∷ f .hessian .y .z ∷
-    f .hessian .z .x ∷ f .hessian .z .y ∷ f .hessian .z .z ∷ []
+-- ---- a sum for each number of a field
 
 unfoldable pub noSums : List Pair
-noSums = replicate fieldNumbers (record { sum = 0·0; carry = 0·0 })
+noSums = replicate fieldSize (record { sum = 0·0; carry = 0·0 })
 
 -- sum k; past the end of the list stands a pair of NaNs
 abbrev pub sumAt : List Pair → ℕ → Pair
@@ -47,7 +37,7 @@ abbrev pub addTermAt : List Float → ℕ → List Pair → List Pair
 addTermAt xs k ps = set ps k (addTerm (sumAt ps k) (getD xs k nan))
 
 unfoldable pub addTerms : List Pair → List Float → List Pair
-addTerms ps xs = Fold fieldNumbers (addTermAt xs) ps
+addTerms ps xs = Fold fieldSize (addTermAt xs) ps
 
 -- ---- the totals
 

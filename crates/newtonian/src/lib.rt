@@ -1,7 +1,10 @@
-// The field record, potential, gradient and Hessian at unit Gρ; a field or its refusal; vectors of three doubles.
-ghost use mathlib.Core.Path.{_≡_};
-ghost use Rattle.newtonian.specs.Vectors.{difference, dot, cross, addVectors, addFields, zeroField, vectorWithinLimits};
+// The field record; a field or its refusal; vectors of three doubles.
 use refusals::Refusal;
+ghost use mathlib.Core.Path.{_≡_};
+ghost use Rattle.newtonian.specs.Vectors.{difference, dot, norm, cross, over, diagonal, addVectors, addFields, zeroField, vectorWithinLimits, fieldNumbers};
+
+// How many numbers a field has.
+pub const FIELD_SIZE: usize = 13;
 
 pub struct Vector {
     pub x: f64,
@@ -9,13 +12,15 @@ pub struct Vector {
     pub z: f64,
 }
 
-// The rows of the matrix of second derivatives.
+// A matrix by its rows: of a field, the second derivatives of its potential.
 pub struct Hessian {
     pub x: Vector,
     pub y: Vector,
     pub z: Vector,
 }
 
+// The field of a body at a station, at unit Gρ: the potential V = ∫dV/r, its gradient, which is the attraction and points
+// at the body, and its Hessian, the gravity-gradient tensor.
 pub struct Newtonian {
     pub potential: f64,
     pub gradient: Vector,
@@ -44,6 +49,12 @@ pub fn dot(a: Vector, b: Vector) -> f64
     a.x * b.x + a.y * b.y + a.z * b.z
 }
 
+pub fn norm(a: Vector) -> f64
+    ensures { λ r. ⌜ r ≡ norm a ⌝ }
+{
+    roots::root(dot(a, a))
+}
+
 pub fn cross(a: Vector, b: Vector) -> Vector
     ensures { λ r. ⌜ r ≡ cross a b ⌝ }
 {
@@ -54,7 +65,41 @@ pub fn cross(a: Vector, b: Vector) -> Vector
     }
 }
 
-fn add_vectors(a: Vector, b: Vector) -> Vector
+// a / n
+pub fn over(a: Vector, n: f64) -> Vector
+    ensures { λ r. ⌜ r ≡ over a n ⌝ }
+{
+    Vector {
+        x: a.x / n,
+        y: a.y / n,
+        z: a.z / n,
+    }
+}
+
+// k I
+pub fn diagonal(k: f64) -> Hessian
+    ensures { λ r. ⌜ r ≡ diagonal k ⌝ }
+{
+    Hessian {
+        x: Vector {
+            x: k,
+            y: 0.0,
+            z: 0.0,
+        },
+        y: Vector {
+            x: 0.0,
+            y: k,
+            z: 0.0,
+        },
+        z: Vector {
+            x: 0.0,
+            y: 0.0,
+            z: k,
+        },
+    }
+}
+
+pub fn add_vectors(a: Vector, b: Vector) -> Vector
     ensures { λ r. ⌜ r ≡ addVectors a b ⌝ }
 {
     Vector {
@@ -98,11 +143,26 @@ pub fn zero_field() -> Newtonian
 pub fn vector_within_limits(v: Vector) -> bool
     ensures { λ r. ⌜ r ≡ vectorWithinLimits v ⌝ }
 {
-    if doubles::within_limits(v.x) {
-        if doubles::within_limits(v.y) {
-            return doubles::within_limits(v.z);
-        }
-        return false;
-    }
-    false
+    doubles::within_limits(v.x) & (doubles::within_limits(v.y) & doubles::within_limits(v.z))
+}
+
+// A field's numbers: the potential, the gradient, and the Hessian row by row.
+pub fn field_numbers(f: Newtonian) -> [f64; FIELD_SIZE]
+    ensures { λ r. ⌜ r ≡ fieldNumbers f ⌝ }
+{
+    [
+        f.potential,
+        f.gradient.x,
+        f.gradient.y,
+        f.gradient.z,
+        f.hessian.x.x,
+        f.hessian.x.y,
+        f.hessian.x.z,
+        f.hessian.y.x,
+        f.hessian.y.y,
+        f.hessian.y.z,
+        f.hessian.z.x,
+        f.hessian.z.y,
+        f.hessian.z.z,
+    ]
 }

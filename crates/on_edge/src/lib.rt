@@ -2,12 +2,12 @@
 ghost use mathlib.Core.Path.{_≡_};
 ghost use mathlib.Core.List.{List};
 ghost use Prim.Native.Nat.{ℕ, _+_, _*_, _<_, _≤_};
-ghost use lib.ListN.{length};
 ghost use Rattle.lists.specs.First.{IsFirst};
 ghost use Rattle.on_edge.specs.OnEdge.{edgeLimit, edgeKey, Edge, addMatrices, addDyad, infiniteEntry, infiniteRow, infiniteEntries, addInfinite};
 ghost use Rattle.on_edge.specs.Block.{numbers, dyadIn, stored, hasKey, Sized, Holds};
 use newtonian::Hessian;
 use newtonian::Vector;
+use orders::edges::number;
 
 // Document 01's limit of the edges through a station.
 pub const EDGE_LIMIT: usize = 64;
@@ -20,9 +20,9 @@ pub fn edge_key(i: u32, j: u32) -> u64
     ensures { λ r. ⌜ r ≡ edgeKey i j ⌝ }
 {
     if i < j {
-        return (i as u64) * 4294967296 + (j as u64);
+        return number(i, j);
     }
-    (j as u64) * 4294967296 + (i as u64)
+    number(j, i)
 }
 
 // The first place among the first count keys that holds key, or count.

@@ -8,6 +8,7 @@ use native.Mathlib.Omega.{arith}
 use lib.ListN.{length}
 use lib.Dec.{eqb}
 use borrow.Author.Tests.{eq-eqb, eqb-true}
+use Rattle.lists.specs.Count.{Below}
 use Rattle.lists.proofs.Numbers.{both, below?}
 use Rattle.lists.proofs.Counts.{below-all}
 use Rattle.lists.proofs.Tallies.{tally-one, tally-some, tally-two, some-tally}
@@ -72,16 +73,17 @@ module _ (f : List ℕ) where
   unfolding occurrences
   some-use a b h = some-tally (has f a b) (length f) h
 
+  -- an end of a use is one of the vertices
+  pub small-endpoint : (b : ℕ) → Below f b → 0 < length f → (ends : Bool) (u : ℕ) → endpoint ends f u < b
+  small-endpoint b h l true u = below-all f b (omega (arith, h 0 l)) h (next u)
+  small-endpoint b h l false u = below-all f b (omega (arith, h 0 l)) h u
+
   module _ (h : Faces f) where
     pub small-from : (u : ℕ) → from f u < maxVertices
     small-from u = below-all f maxVertices (omega arith) (h .small) u
 
     pub small-to : (u : ℕ) → to f u < maxVertices
     small-to u = below-all f maxVertices (omega arith) (h .small) (next u)
-
-    pub small-endpoint : (ends : Bool) (u : ℕ) → endpoint ends f u < maxVertices
-    small-endpoint true u = small-to u
-    small-endpoint false u = small-from u
 
     -- a use whose number is that of (a, b) has the edge (a, b)
     pub number-has : (u a b : ℕ) → b < 2³² → edge f u ≡ edgeNumber a b → has f a b u ≡ true

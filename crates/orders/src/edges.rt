@@ -1,7 +1,7 @@
 // The edge uses of a face list.
 ghost use mathlib.Core.Path.{_≡_};
 ghost use Prim.Native.Nat.{_%_};
-ghost use Rattle.orders.specs.Edges.{from, to, edgeNumber, edge, reverse, IsUse};
+ghost use Rattle.orders.specs.Edges.{next, from, to, edgeNumber, edge, reverse, IsUse};
 
 // The limits of document 01.
 pub const MAX_VERTICES: usize = 20000;
@@ -16,18 +16,27 @@ pub fn start(faces: &[u32], u: u32) -> u32
     faces[u as usize]
 }
 
+// The place in the face list of the corner after corner u, in the same face.
+fn next(u: u32) -> usize
+    ensures { λ r. ⌜ r ≡ next u ⌝ }
+{
+    let i = u as usize;
+    if i % 3 == 2 {
+        return i - 2;
+    }
+    i + 1
+}
+
 // The vertex that edge use u reaches.
 pub fn end(faces: &[u32], u: u32) -> u32
     requires { ⌜ IsUse (now faces) u ⌝ }
     ensures { λ r. ⌜ r ≡ to (now (faces .entry)) u ⌝ }
 {
-    let i = u as usize;
-    let j = i / 3 * 3 + (i + 1) % 3;
-    faces[j]
+    faces[next(u)]
 }
 
 // An edge as one number, from · 2³² + to.
-fn number(from: u32, to: u32) -> u64
+pub fn number(from: u32, to: u32) -> u64
     ensures { λ r. ⌜ r ≡ edgeNumber from to ⌝ }
 {
     (from as u64) * 4294967296 + (to as u64)

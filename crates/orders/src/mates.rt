@@ -1,4 +1,4 @@
-// The mates: for each edge use, the use that is its reverse.
+// The mate of an edge use, the use that is its reverse.
 ghost use mathlib.Core.Path.{_≡_};
 ghost use Prim.Native.Nat.{_<_};
 ghost use lib.ListN.{length};
@@ -6,7 +6,7 @@ ghost use Rattle.lists.specs.Sort.{Sorted};
 ghost use Rattle.lists.proofs.Searching.{Lower};
 ghost use Rattle.orders.specs.Edges.{edge, Faces};
 ghost use Rattle.orders.specs.Order.{orderList, Uses};
-ghost use Rattle.orders.specs.Mates.{mate, mates};
+ghost use Rattle.orders.specs.Mates.{mate};
 use crate::edges::edge;
 use crate::edges::reverse;
 
@@ -43,16 +43,4 @@ pub fn mate(faces: &[u32], order: &[u32], u: u32) -> u32
         return w;
     }
     faces.len() as u32
-}
-
-// Writes the mate of every edge use.
-pub fn mates(faces: &[u32], order: &[u32], out: &mut [u32])
-    requires { ⌜ Faces (now faces) × (now order ≡ orderList (now faces)) × (length (now out) ≡ length (now faces)) ⌝ }
-    ensures { λ _. ⌜ now (out .exit) ≡ mates (now (faces .entry)) ⌝ }
-{
-    let mut i = 0;
-    while i < out.len() {
-        out[i] = mate(faces, order, i as u32);
-        i += 1;
-    }
 }

@@ -4,7 +4,8 @@ ghost use lib.ListN.{length};
 ghost use Rattle.prism.specs.Prism.{prism};
 ghost use Rattle.mesh.specs.Check.{checkMesh, meshCause, workAfter, answerOf};
 ghost use Rattle.polyhedron.specs.Polyhedron.{polyhedron, polyhedronCause};
-ghost use Rattle.lent.specs.Exported.{vectorOf, fieldNumbers, itself, returned, written, valuesAfter};
+ghost use Rattle.newtonian.specs.Vectors.{fieldNumbers};
+ghost use Rattle.lent.specs.Exported.{vectorOf, itself, GivesValues};
 use lent::give::give_field;
 use lent::give::give_volume;
 use lent::take::vector_of;
@@ -18,9 +19,7 @@ pub extern "C" fn physica_prism(
     out: &mut [f64; 13],
     values: &mut [u32; 2],
 ) -> u32
-    ensures number { λ r. ⌜ r ≡ returned (prism (vectorOf (now (station .entry))) (vectorOf (now (min .entry))) (vectorOf (now (max .entry)))) ⌝ }
-    ensures out { λ _. ⌜ now (out .exit) ≡ written fieldNumbers (prism (vectorOf (now (station .entry))) (vectorOf (now (min .entry))) (vectorOf (now (max .entry)))) (now (out .entry)) ⌝ }
-    ensures values { λ _. ⌜ now (values .exit) ≡ valuesAfter (prism (vectorOf (now (station .entry))) (vectorOf (now (min .entry))) (vectorOf (now (max .entry)))) ⌝ }
+    ensures { λ r. ⌜ GivesValues fieldNumbers (prism (vectorOf (now (station .entry))) (vectorOf (now (min .entry))) (vectorOf (now (max .entry)))) r (now (out .entry)) (now (out .exit)) (now (values .exit)) ⌝ }
 {
     give_field(
         prism::prism(vector_of(station), vector_of(min), vector_of(max)),
@@ -38,12 +37,10 @@ pub extern "C" fn physica_check_mesh(
     out: &mut f64,
     values: &mut [u32; 2],
 ) -> u32
-    ensures number { λ r. ⌜ r ≡ returned (answerOf (checkMesh (now (verts .entry)) (now (faces .entry)) (length (now (work .entry))))) ⌝ }
-    ensures out { λ _. ⌜ now (out .exit) ≡ written itself (answerOf (checkMesh (now (verts .entry)) (now (faces .entry)) (length (now (work .entry))))) (now (out .entry)) ⌝ }
-    ensures values { λ _. ⌜ now (values .exit) ≡ valuesAfter (answerOf (checkMesh (now (verts .entry)) (now (faces .entry)) (length (now (work .entry))))) ⌝ }
+    ensures { λ r. ⌜ GivesValues itself (answerOf (checkMesh (now (verts .entry)) (now (faces .entry)) (length (now (work .entry))))) r (now (out .entry)) (now (out .exit)) (now (values .exit)) ⌝ }
     ensures work { λ _. ⌜ now (work .exit) ≡ workAfter (meshCause (now (verts .entry)) (now (faces .entry)) (length (now (work .entry)))) (now (faces .entry)) (now (work .entry)) ⌝ }
 {
-    give_volume(mesh::check_mesh(verts, faces, work), out, values)
+    give_volume(check_mesh::check_mesh(verts, faces, work), out, values)
 }
 
 // The field of a closed mesh at a station: 1, 2, 12, 3, 4, 5, 6, 7, 8, 11 with station 0.
@@ -56,9 +53,7 @@ pub extern "C" fn physica_polyhedron(
     out: &mut [f64; 13],
     values: &mut [u32; 2],
 ) -> u32
-    ensures number { λ r. ⌜ r ≡ returned (polyhedron (vectorOf (now (station .entry))) (now (verts .entry)) (now (faces .entry)) (length (now (work .entry)))) ⌝ }
-    ensures out { λ _. ⌜ now (out .exit) ≡ written fieldNumbers (polyhedron (vectorOf (now (station .entry))) (now (verts .entry)) (now (faces .entry)) (length (now (work .entry)))) (now (out .entry)) ⌝ }
-    ensures values { λ _. ⌜ now (values .exit) ≡ valuesAfter (polyhedron (vectorOf (now (station .entry))) (now (verts .entry)) (now (faces .entry)) (length (now (work .entry)))) ⌝ }
+    ensures { λ r. ⌜ GivesValues fieldNumbers (polyhedron (vectorOf (now (station .entry))) (now (verts .entry)) (now (faces .entry)) (length (now (work .entry)))) r (now (out .entry)) (now (out .exit)) (now (values .exit)) ⌝ }
     ensures work { λ _. ⌜ now (work .exit) ≡ workAfter (polyhedronCause (vectorOf (now (station .entry))) (now (verts .entry)) (now (faces .entry)) (length (now (work .entry)))) (now (faces .entry)) (now (work .entry)) ⌝ }
 {
     give_field(

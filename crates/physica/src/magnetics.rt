@@ -1,12 +1,12 @@
 // Magnetic fields and demagnetisation.
-ghost use mathlib.Core.Path.{_≡_};
 ghost use Rattle.anomaly.specs.Body.{body};
 ghost use Rattle.anomaly.specs.TotalField.{totalField};
-ghost use Rattle.anomaly.specs.Sphere.{sphere};
-ghost use Rattle.anomaly.specs.Cylinder.{cylinder};
+ghost use Rattle.sphere.specs.Sphere.{sphere};
+ghost use Rattle.cylinder.specs.Cylinder.{cylinder};
 ghost use Rattle.demagnetisation.specs.Ellipsoid.{ellipsoidFactors};
 ghost use Rattle.demagnetisation.specs.Magnetisation.{magnetisation, koenigsberger};
-ghost use Rattle.lent.specs.Exported.{vectorOf, hessianOf, vectorNumbers, itself, returned, written};
+ghost use Rattle.newtonian.specs.Vectors.{vectorNumbers};
+ghost use Rattle.lent.specs.Exported.{vectorOf, hessianOf, itself, Gives};
 use lent::give::give_number;
 use lent::give::give_vector;
 use lent::take::hessian_of;
@@ -19,8 +19,7 @@ pub extern "C" fn physica_body(
     magnetisation: &[f64; 3],
     out: &mut [f64; 3],
 ) -> u32
-    ensures number { λ r. ⌜ r ≡ returned (body (hessianOf (now (hessian .entry))) (vectorOf (now (magnetisation .entry)))) ⌝ }
-    ensures out { λ _. ⌜ now (out .exit) ≡ written vectorNumbers (body (hessianOf (now (hessian .entry))) (vectorOf (now (magnetisation .entry)))) (now (out .entry)) ⌝ }
+    ensures { λ r. ⌜ Gives vectorNumbers (body (hessianOf (now (hessian .entry))) (vectorOf (now (magnetisation .entry)))) r (now (out .entry)) (now (out .exit)) ⌝ }
 {
     give_vector(
         anomaly::body(hessian_of(hessian), vector_of(magnetisation)),
@@ -31,8 +30,7 @@ pub extern "C" fn physica_body(
 // What a total-field magnetometer reads (T): 3.
 #[no_mangle]
 pub extern "C" fn physica_total_field(ambient: &[f64; 3], anomaly: &[f64; 3], out: &mut f64) -> u32
-    ensures number { λ r. ⌜ r ≡ returned (totalField (vectorOf (now (ambient .entry))) (vectorOf (now (anomaly .entry)))) ⌝ }
-    ensures out { λ _. ⌜ now (out .exit) ≡ written itself (totalField (vectorOf (now (ambient .entry))) (vectorOf (now (anomaly .entry)))) (now (out .entry)) ⌝ }
+    ensures { λ r. ⌜ Gives itself (totalField (vectorOf (now (ambient .entry))) (vectorOf (now (anomaly .entry)))) r (now (out .entry)) (now (out .exit)) ⌝ }
 {
     give_number(
         anomaly::total_field(vector_of(ambient), vector_of(anomaly)),
@@ -49,11 +47,10 @@ pub extern "C" fn physica_sphere(
     magnetisation: &[f64; 3],
     out: &mut [f64; 3],
 ) -> u32
-    ensures number { λ r. ⌜ r ≡ returned (sphere (vectorOf (now (p .entry))) (vectorOf (now (centre .entry))) radius (vectorOf (now (magnetisation .entry)))) ⌝ }
-    ensures out { λ _. ⌜ now (out .exit) ≡ written vectorNumbers (sphere (vectorOf (now (p .entry))) (vectorOf (now (centre .entry))) radius (vectorOf (now (magnetisation .entry)))) (now (out .entry)) ⌝ }
+    ensures { λ r. ⌜ Gives vectorNumbers (sphere (vectorOf (now (p .entry))) (vectorOf (now (centre .entry))) radius (vectorOf (now (magnetisation .entry)))) r (now (out .entry)) (now (out .exit)) ⌝ }
 {
     give_vector(
-        anomaly::sphere(
+        sphere::sphere(
             vector_of(p),
             vector_of(centre),
             radius,
@@ -73,11 +70,10 @@ pub extern "C" fn physica_cylinder(
     magnetisation: &[f64; 3],
     out: &mut [f64; 3],
 ) -> u32
-    ensures number { λ r. ⌜ r ≡ returned (cylinder (vectorOf (now (p .entry))) (vectorOf (now (point .entry))) (vectorOf (now (axis .entry))) radius (vectorOf (now (magnetisation .entry)))) ⌝ }
-    ensures out { λ _. ⌜ now (out .exit) ≡ written vectorNumbers (cylinder (vectorOf (now (p .entry))) (vectorOf (now (point .entry))) (vectorOf (now (axis .entry))) radius (vectorOf (now (magnetisation .entry)))) (now (out .entry)) ⌝ }
+    ensures { λ r. ⌜ Gives vectorNumbers (cylinder (vectorOf (now (p .entry))) (vectorOf (now (point .entry))) (vectorOf (now (axis .entry))) radius (vectorOf (now (magnetisation .entry)))) r (now (out .entry)) (now (out .exit)) ⌝ }
 {
     give_vector(
-        anomaly::cylinder(
+        cylinder::cylinder(
             vector_of(p),
             vector_of(point),
             vector_of(axis),
@@ -91,8 +87,7 @@ pub extern "C" fn physica_cylinder(
 // The demagnetising factors of an ellipsoid: 3, 14, 15.
 #[no_mangle]
 pub extern "C" fn physica_ellipsoid_factors(a: f64, b: f64, c: f64, out: &mut [f64; 3]) -> u32
-    ensures number { λ r. ⌜ r ≡ returned (ellipsoidFactors a b c) ⌝ }
-    ensures out { λ _. ⌜ now (out .exit) ≡ written vectorNumbers (ellipsoidFactors a b c) (now (out .entry)) ⌝ }
+    ensures { λ r. ⌜ Gives vectorNumbers (ellipsoidFactors a b c) r (now (out .entry)) (now (out .exit)) ⌝ }
 {
     give_vector(demagnetisation::ellipsoid_factors(a, b, c), out)
 }
@@ -106,8 +101,7 @@ pub extern "C" fn physica_magnetisation(
     n: &[f64; 9],
     out: &mut [f64; 3],
 ) -> u32
-    ensures number { λ r. ⌜ r ≡ returned (magnetisation chi (vectorOf (now (h0 .entry))) (vectorOf (now (remanent .entry))) (hessianOf (now (n .entry)))) ⌝ }
-    ensures out { λ _. ⌜ now (out .exit) ≡ written vectorNumbers (magnetisation chi (vectorOf (now (h0 .entry))) (vectorOf (now (remanent .entry))) (hessianOf (now (n .entry)))) (now (out .entry)) ⌝ }
+    ensures { λ r. ⌜ Gives vectorNumbers (magnetisation chi (vectorOf (now (h0 .entry))) (vectorOf (now (remanent .entry))) (hessianOf (now (n .entry)))) r (now (out .entry)) (now (out .exit)) ⌝ }
 {
     give_vector(
         demagnetisation::magnetisation(chi, vector_of(h0), vector_of(remanent), hessian_of(n)),
@@ -123,8 +117,7 @@ pub extern "C" fn physica_koenigsberger(
     h0: &[f64; 3],
     out: &mut f64,
 ) -> u32
-    ensures number { λ r. ⌜ r ≡ returned (koenigsberger (vectorOf (now (remanent .entry))) chi (vectorOf (now (h0 .entry)))) ⌝ }
-    ensures out { λ _. ⌜ now (out .exit) ≡ written itself (koenigsberger (vectorOf (now (remanent .entry))) chi (vectorOf (now (h0 .entry)))) (now (out .entry)) ⌝ }
+    ensures { λ r. ⌜ Gives itself (koenigsberger (vectorOf (now (remanent .entry))) chi (vectorOf (now (h0 .entry)))) r (now (out .entry)) (now (out .exit)) ⌝ }
 {
     give_number(
         demagnetisation::koenigsberger(vector_of(remanent), chi, vector_of(h0)),

@@ -1,5 +1,4 @@
 // Calls on numbers: Carlson's integrals, the complete elliptic integrals, the ring, the rules of quadrature.
-ghost use mathlib.Core.Path.{_≡_};
 ghost use Rattle.carlson.specs.Rc.{carlsonRc};
 ghost use Rattle.special.specs.Domain.{carlsonRf, carlsonRd, carlsonRj};
 ghost use Rattle.rings.specs.Elliptic.{completeElliptic};
@@ -7,7 +6,7 @@ ghost use Rattle.rings.specs.Cel.{cel};
 ghost use Rattle.rings.specs.Ring.{ring};
 ghost use Rattle.legendre.specs.GaussLegendre.{gaussLegendre};
 ghost use Rattle.lent.specs.Answers.{integralAnswer, completeAnswer, ringAnswer, ruleAnswer};
-ghost use Rattle.lent.specs.Exported.{returned, written, itself, completeNumbers, ringNumbers, nodesOf, weightsOf};
+ghost use Rattle.lent.specs.Exported.{Gives, itself, completeNumbers, ringNumbers, nodesOf, weightsOf};
 use lent::give::give_complete;
 use lent::give::give_integral;
 use lent::give::give_ring;
@@ -16,8 +15,7 @@ use lent::give::give_rule;
 // R_C(x, y): 14, 15.
 #[no_mangle]
 pub extern "C" fn physica_carlson_rc(x: f64, y: f64, out: &mut f64) -> u32
-    ensures number { λ r. ⌜ r ≡ returned (integralAnswer (carlsonRc x y)) ⌝ }
-    ensures out { λ _. ⌜ now (out .exit) ≡ written itself (integralAnswer (carlsonRc x y)) (now (out .entry)) ⌝ }
+    ensures { λ r. ⌜ Gives itself (integralAnswer (carlsonRc x y)) r (now (out .entry)) (now (out .exit)) ⌝ }
 {
     give_integral(carlson::carlson_rc(x, y), out)
 }
@@ -25,8 +23,7 @@ pub extern "C" fn physica_carlson_rc(x: f64, y: f64, out: &mut f64) -> u32
 // R_F(x, y, z): 14, 15.
 #[no_mangle]
 pub extern "C" fn physica_carlson_rf(x: f64, y: f64, z: f64, out: &mut f64) -> u32
-    ensures number { λ r. ⌜ r ≡ returned (integralAnswer (carlsonRf x y z)) ⌝ }
-    ensures out { λ _. ⌜ now (out .exit) ≡ written itself (integralAnswer (carlsonRf x y z)) (now (out .entry)) ⌝ }
+    ensures { λ r. ⌜ Gives itself (integralAnswer (carlsonRf x y z)) r (now (out .entry)) (now (out .exit)) ⌝ }
 {
     give_integral(special::carlson_rf(x, y, z), out)
 }
@@ -34,8 +31,7 @@ pub extern "C" fn physica_carlson_rf(x: f64, y: f64, z: f64, out: &mut f64) -> u
 // R_D(x, y, z): 14, 15.
 #[no_mangle]
 pub extern "C" fn physica_carlson_rd(x: f64, y: f64, z: f64, out: &mut f64) -> u32
-    ensures number { λ r. ⌜ r ≡ returned (integralAnswer (carlsonRd x y z)) ⌝ }
-    ensures out { λ _. ⌜ now (out .exit) ≡ written itself (integralAnswer (carlsonRd x y z)) (now (out .entry)) ⌝ }
+    ensures { λ r. ⌜ Gives itself (integralAnswer (carlsonRd x y z)) r (now (out .entry)) (now (out .exit)) ⌝ }
 {
     give_integral(special::carlson_rd(x, y, z), out)
 }
@@ -43,8 +39,7 @@ pub extern "C" fn physica_carlson_rd(x: f64, y: f64, z: f64, out: &mut f64) -> u
 // R_J(x, y, z, p): 14, 15.
 #[no_mangle]
 pub extern "C" fn physica_carlson_rj(x: f64, y: f64, z: f64, p: f64, out: &mut f64) -> u32
-    ensures number { λ r. ⌜ r ≡ returned (integralAnswer (carlsonRj x y z p)) ⌝ }
-    ensures out { λ _. ⌜ now (out .exit) ≡ written itself (integralAnswer (carlsonRj x y z p)) (now (out .entry)) ⌝ }
+    ensures { λ r. ⌜ Gives itself (integralAnswer (carlsonRj x y z p)) r (now (out .entry)) (now (out .exit)) ⌝ }
 {
     give_integral(special::carlson_rj(x, y, z, p), out)
 }
@@ -52,8 +47,7 @@ pub extern "C" fn physica_carlson_rj(x: f64, y: f64, z: f64, p: f64, out: &mut f
 // K(m) and E(m): 14.
 #[no_mangle]
 pub extern "C" fn physica_complete_elliptic(m: f64, out: &mut [f64; 2]) -> u32
-    ensures number { λ r. ⌜ r ≡ returned (completeAnswer (completeElliptic m)) ⌝ }
-    ensures out { λ _. ⌜ now (out .exit) ≡ written completeNumbers (completeAnswer (completeElliptic m)) (now (out .entry)) ⌝ }
+    ensures { λ r. ⌜ Gives completeNumbers (completeAnswer (completeElliptic m)) r (now (out .entry)) (now (out .exit)) ⌝ }
 {
     give_complete(rings::complete_elliptic(m), out)
 }
@@ -61,8 +55,7 @@ pub extern "C" fn physica_complete_elliptic(m: f64, out: &mut [f64; 2]) -> u32
 // Bulirsch's cel(k_c, p, a, b): 14.
 #[no_mangle]
 pub extern "C" fn physica_cel(kc: f64, p: f64, a: f64, b: f64, out: &mut f64) -> u32
-    ensures number { λ r. ⌜ r ≡ returned (integralAnswer (cel kc p a b)) ⌝ }
-    ensures out { λ _. ⌜ now (out .exit) ≡ written itself (integralAnswer (cel kc p a b)) (now (out .entry)) ⌝ }
+    ensures { λ r. ⌜ Gives itself (integralAnswer (cel kc p a b)) r (now (out .entry)) (now (out .exit)) ⌝ }
 {
     give_integral(rings::cel(kc, p, a, b), out)
 }
@@ -70,8 +63,7 @@ pub extern "C" fn physica_cel(kc: f64, p: f64, a: f64, b: f64, out: &mut f64) ->
 // The average of 1/r over a ring, and its derivatives by ρ and z: 3, 14.
 #[no_mangle]
 pub extern "C" fn physica_ring(radius: f64, rho: f64, z: f64, out: &mut [f64; 3]) -> u32
-    ensures number { λ r. ⌜ r ≡ returned (ringAnswer (ring radius rho z)) ⌝ }
-    ensures out { λ _. ⌜ now (out .exit) ≡ written ringNumbers (ringAnswer (ring radius rho z)) (now (out .entry)) ⌝ }
+    ensures { λ r. ⌜ Gives ringNumbers (ringAnswer (ring radius rho z)) r (now (out .entry)) (now (out .exit)) ⌝ }
 {
     give_ring(rings::ring(radius, rho, z), out)
 }
@@ -83,9 +75,8 @@ pub extern "C" fn physica_gauss_legendre(
     nodes: &mut [f64; 16],
     weights: &mut [f64; 16],
 ) -> u32
-    ensures number { λ r. ⌜ r ≡ returned (ruleAnswer (gaussLegendre order)) ⌝ }
-    ensures nodes { λ _. ⌜ now (nodes .exit) ≡ written nodesOf (ruleAnswer (gaussLegendre order)) (now (nodes .entry)) ⌝ }
-    ensures weights { λ _. ⌜ now (weights .exit) ≡ written weightsOf (ruleAnswer (gaussLegendre order)) (now (weights .entry)) ⌝ }
+    ensures nodes { λ r. ⌜ Gives nodesOf (ruleAnswer (gaussLegendre order)) r (now (nodes .entry)) (now (nodes .exit)) ⌝ }
+    ensures weights { λ r. ⌜ Gives weightsOf (ruleAnswer (gaussLegendre order)) r (now (weights .entry)) (now (weights .exit)) ⌝ }
 {
     give_rule(legendre::gauss_legendre(order), nodes, weights)
 }

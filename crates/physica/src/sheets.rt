@@ -7,7 +7,7 @@ ghost use Rattle.sheet.specs.Checker.{verdict, rowsPart, rowPart};
 ghost use Rattle.sheet.specs.Promises.{Right};
 ghost use Rattle.sheet.specs.declared.Verdict.the-variants.{Accepted};
 ghost use Rattle.writer.specs.Written.{Writes};
-ghost use Rattle.lent.specs.Exported.{itself, returned, written, valuesAfter};
+ghost use Rattle.lent.specs.Exported.{itself, GivesValues};
 ghost use Rattle.lent.specs.Sheets.{writtenAnswer, verdictAnswer, sheetInput, writeSheet, rowCount, rowAfter};
 use lent::give::give_verdict;
 use lent::give::give_written;
@@ -29,9 +29,7 @@ pub extern "C" fn physica_write_sheet(
     size: &mut usize,
     values: &mut [u32; 2],
 ) -> u32
-    ensures number { λ r. ⌜ r ≡ returned (writtenAnswer (writeSheet (sheetInput kind (now (verts .entry)) (now (faces .entry)) (now (magnetisation .entry)) (now (ambient .entry)) (now (stations .entry))) (length (now (work .entry))) (length (now (out .entry))))) ⌝ }
-    ensures size { λ _. ⌜ now (size .exit) ≡ written itself (writtenAnswer (writeSheet (sheetInput kind (now (verts .entry)) (now (faces .entry)) (now (magnetisation .entry)) (now (ambient .entry)) (now (stations .entry))) (length (now (work .entry))) (length (now (out .entry))))) (now (size .entry)) ⌝ }
-    ensures values { λ _. ⌜ now (values .exit) ≡ valuesAfter (writtenAnswer (writeSheet (sheetInput kind (now (verts .entry)) (now (faces .entry)) (now (magnetisation .entry)) (now (ambient .entry)) (now (stations .entry))) (length (now (work .entry))) (length (now (out .entry))))) ⌝ }
+    ensures { λ r. ⌜ GivesValues itself (writtenAnswer (writeSheet (sheetInput kind (now (verts .entry)) (now (faces .entry)) (now (magnetisation .entry)) (now (ambient .entry)) (now (stations .entry))) (length (now (work .entry))) (length (now (out .entry))))) r (now (size .entry)) (now (size .exit)) (now (values .exit)) ⌝ }
     ensures lent { λ _. ⌜ Writes (sheetInput kind (now (verts .entry)) (now (faces .entry)) (now (magnetisation .entry)) (now (ambient .entry)) (now (stations .entry))) (now (work .entry)) (now (out .entry)) (writeSheet (sheetInput kind (now (verts .entry)) (now (faces .entry)) (now (magnetisation .entry)) (now (ambient .entry)) (now (stations .entry))) (length (now (work .entry))) (length (now (out .entry)))) (now (work .exit)) (now (out .exit)) ⌝ }
 {
     let m = vector_of(magnetisation);
@@ -51,9 +49,7 @@ pub extern "C" fn physica_check_sheet(
     found: &mut [u32; 2],
     values: &mut [u32; 2],
 ) -> u32
-    ensures number { λ r. ⌜ r ≡ returned (verdictAnswer (verdict (now (sheet .entry)))) ⌝ }
-    ensures found { λ _. ⌜ now (found .exit) ≡ written itself (verdictAnswer (verdict (now (sheet .entry)))) (now (found .entry)) ⌝ }
-    ensures values { λ _. ⌜ now (values .exit) ≡ valuesAfter (verdictAnswer (verdict (now (sheet .entry)))) ⌝ }
+    ensures { λ r. ⌜ GivesValues itself (verdictAnswer (verdict (now (sheet .entry)))) r (now (found .entry)) (now (found .exit)) (now (values .exit)) ⌝ }
     ensures right { λ _. ⌜ ((k n : ℕ) → verdict (now (sheet .entry)) ≡ Accepted k n → Right (now (sheet .entry)) k n) ⌝ }
 {
     give_verdict(checker::check_sheet(sheet), found, values)

@@ -23,9 +23,9 @@ use Rattle.mesh.specs.Surface.{Body, volume}
 use Rattle.mesh.specs.Accepted.{Counted}
 use Rattle.mesh.specs.CauseLaws.{none-count}
 use Rattle.mesh.specs.Check.{countCause, outOfLimits, surfaceCause, meshCause, meshOf, checkMesh, leavesWork, workAfter}
-use Rattle.mesh.specs.Laws.{checked, mesh-volume, mesh-refused, work-front}
-use Rattle.mesh.proofs.Answers.{not-counted}
-use Rattle.mesh.proofs.Work.{early-number, work-early}
+use Rattle.mesh_laws.specs.Laws.{checked, mesh-volume, mesh-refused, work-front}
+use Rattle.check_mesh.proofs.Answers.{not-counted}
+use Rattle.check_mesh.proofs.Work.{early-number, work-early}
 use Rattle.polyhedron.specs.Polyhedron.{stationCause, givenCause, polyhedronCause, polyhedronAt, polyhedron}
 
 module _ (p : Vector) (v : List Float) (f w : List ℕ) where

@@ -1,4 +1,3 @@
 -- The field of a closed polyhedron of triangles.
-pub mod Centroid
 pub mod Polyhedron
 pub mod PolyhedronLaws

@@ -17,7 +17,7 @@ use Rattle.newtonian.specs.declared.Newtonian.{Newtonian}
 use Rattle.mesh.specs.Check.{outOfLimits, countCause, surfaceCause}
 use Rattle.tetrahedra.specs.Tetrahedra.{tetrahedra}
 use Rattle.edge_face_sums.specs.EdgeFaceSums.{edgeFaceSums}
-use Rattle.polyhedron.specs.Centroid.{centroid, squaredDistance, radius}
+use Rattle.centroid.specs.Centroid.{centroid, squaredDistance, radius}
 
 -- ---- a mesh that is checked
 

@@ -1,4 +1,2 @@
--- For the proofs here: the orders of an affordable cubature (Orders), the ways out of the recursion (WaysOut), and a constant (MinusLnEpsilon).
-mod Orders
+-- For the proofs here: the ways out of the recursion.
 mod WaysOut
-mod MinusLnEpsilon

@@ -1,4 +1,3 @@
--- The field of a rectangular prism: where it is taken by cubature, where by corner sums, and where the prism is bisected.
-pub mod Bisection
+-- The field of a rectangular prism, or its refusal.
 pub mod Prism
 pub mod PrismRefusals

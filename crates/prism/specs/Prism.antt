@@ -3,7 +3,7 @@
 use Prim.Native.Nat.{ℕ, zero, suc}
 use mathlib.Core.Bool.{Bool, _&&_}
 use lib.Ieee.{Float, le}
-use Rattle.doubles.specs.Rounded.{_⊖_}
+use Rattle.doubles.specs.Rounded.{_⊖_, _⊗_}
 use Rattle.doubles.specs.Constants.{10⁻⁶}
 use Rattle.refusals.specs.Causes.{orElse, unless}
 use Rattle.refusals.specs.Answer.{Answer, value, refused, orAnswer}
@@ -12,15 +12,15 @@ use Rattle.refusals.specs.declared.Refusal.the-variants.{OutOfLimits, TooThin, 
 use Rattle.newtonian.specs.Vectors.{addFields, vectorWithinLimits}
 use Rattle.newtonian.specs.declared.Vector.{Vector}
 use Rattle.newtonian.specs.declared.Newtonian.{Newtonian}
-use Rattle.prism.specs.declared.AxisRule.{AxisRule}
-use Rattle.prism.specs.declared.AxisRule.the-variants.{LastOfEquals}
-use Rattle.prism.specs.declared.Piece.{Piece}
-use Rattle.prism.specs.declared.Piece.the-variants.{Whole, Halves}
-use Rattle.prism.specs.Bisection.{pieceOf}
+use Rattle.bisection.specs.declared.AxisRule.{AxisRule}
+use Rattle.bisection.specs.declared.AxisRule.the-variants.{LastOfEquals}
+use Rattle.bisection.specs.declared.Piece.{Piece}
+use Rattle.bisection.specs.declared.Piece.the-variants.{Whole, Halves}
+use Rattle.bisection.specs.Bisection.{pieceOf}
 
 -- ---- the pieces
 
--- the sum of the lower and the upper half's fields, or the first's refusal
+-- the sum of the lower and the upper half's fields, or the first refusal among them
 unfoldable pub join : Answer Newtonian → Answer Newtonian → Answer Newtonian
 join (refused r) b = refused r
 join (value f) (refused r) = refused r
@@ -59,6 +59,10 @@ sideWithinLimits lo hi = le minSide (hi ⊖ lo)
 
 unfoldable pub sidesWithinLimits : Vector → Vector → Bool
 sidesWithinLimits lo hi = sideWithinLimits (lo .x) (hi .x) && (sideWithinLimits (lo .y) (hi .y) && sideWithinLimits (lo .z) (hi .z))
+
+-- the three sides, multiplied left to right
+unfoldable pub prismVolume : Vector → Vector → Float
+prismVolume lo hi = (hi .x ⊖ lo .x) ⊗ (hi .y ⊖ lo .y) ⊗ (hi .z ⊖ lo .z)
 
 -- 3, then 9
 unfoldable pub causeOf : Vector → Vector → Vector → Cause

@@ -17,7 +17,8 @@ use Rattle.refusals.proofs.Causes.{each}
 use Rattle.layout.specs.LittleEndian.{pack, bits}
 use Rattle.layout.proofs.Stores.{sets-then}
 use Rattle.layout.proofs.Lists.{pack-append, pack-length}
-use Rattle.rows.specs.Row.{rowWidth, rowNumbers, isFiniteRow, rowCause}
+use Rattle.rows.specs.Kinds.{rowWidth}
+use Rattle.rows.specs.Row.{rowNumbers, isFiniteRow, rowCause}
 use Rattle.rows.specs.declared.Row.{Row}
 use Rattle.sheet.specs.Input.{SheetInput, stationCount, rowAt}
 use Rattle.sheet.specs.Bytes.{numbersOf, rows}

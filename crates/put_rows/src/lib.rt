@@ -1,11 +1,9 @@
 // Writes the rows of a sheet.
-ghost use mathlib.Core.Path.{_≡_};
 ghost use Prim.Native.Nat.{_+_, _*_, _/_, _≤_, _<_};
 ghost use lib.ListN.{length};
-ghost use Rattle.rows.specs.Row.{rowWidth};
+ghost use Rattle.rows.specs.Kinds.{rowWidth, maxStations};
 ghost use Rattle.rows.specs.Known.{Known};
-ghost use Rattle.sheet.specs.Writer.{maxStations};
-ghost use Rattle.input_causes.specs.Arguments.{inputOf};
+ghost use Rattle.sheet.specs.Input.{inputOf};
 ghost use Rattle.put_rows.specs.Rows.{RowPut, RowsPut};
 use newtonian::Vector;
 use refusals::Cause;
@@ -59,7 +57,7 @@ pub fn put_rows(
     ensures { λ r. ⌜ RowsPut (inputOf kind (now (verts .entry)) (now (faces .entry)) magnetisation ambient (now (stations .entry))) at r (now (out .entry)) (now (out .exit)) ⌝ }
 {
     let n = stations.len() / 3;
-    let length = rows::row_length(kind);
+    let length = rows::kinds::row_length(kind);
     let mut i = 0;
     while i < n {
         let cause = put_row(

@@ -7,10 +7,10 @@ use lib.ListN.{length, length-map}
 use Rattle.refusals.specs.Causes.{unless}
 use Rattle.refusals.specs.declared.Refusal.the-variants.{Malformed, TooMany}
 use Rattle.layout.proofs.Lists.{unpack-length}
-use Rattle.sheet.specs.Writer.{knownKind, malformed, tooMany}
+use Rattle.rows.specs.Kinds.{knownKind, withinCounts}
+use Rattle.sheet.specs.Writer.{malformed, tooMany}
 use Rattle.sheet.specs.Reading.{kind-read, faces-length}
 use Rattle.sheet.specs.Checker.{kindIn, verticesIn, facesIn, stationsIn, parse}
-use Rattle.readers.specs.Opened.{withinCounts}
 
 third : (n : ℕ) → 3 * n / 3 ≡ n
 third n = omega arith
@@ -33,5 +33,5 @@ module _ (b : List ℕ) where
       rw (vertices-length, faces-length b, stations-length, kind-read b, third (verticesIn b), third (facesIn b), no-rest (verticesIn b), no-rest (facesIn b), no-rest (stationsIn b))
 
   pub many-parsed : tooMany (parse b) ≡ unless (withinCounts (verticesIn b) (facesIn b) (stationsIn b)) TooMany
-  unfolding tooMany withinCounts
+  unfolding tooMany
   many-parsed = rw (vertices-length, faces-length b, stations-length, third (verticesIn b), third (facesIn b), third (stationsIn b))

@@ -2,19 +2,13 @@
 ghost use mathlib.Core.Path.{_≡_};
 ghost use Prim.Native.Nat.{_*_, _≤_};
 ghost use lib.ListN.{length};
-ghost use Rattle.rows.specs.Row.{rowWidth};
+ghost use Rattle.rows.specs.Kinds.{rowWidth};
 ghost use Rattle.sheet.specs.Bytes.{trailerLength, pointerOf};
-ghost use Rattle.sheet.specs.Writer.{knownKind};
 ghost use Rattle.sheet.specs.Checker.{trailer, kindIn, verticesIn, facesIn, stationsIn, volumeIn, pointerIn, stationsStart, rowStart, wrongLength, openingCause, rowsPart, rowPart};
-ghost use Rattle.readers.specs.Opened.{Opened, withinCounts};
-use orders::edges::MAX_FACES;
-use orders::edges::MAX_VERTICES;
+ghost use Rattle.readers.specs.Opened.{Opened};
 use refusals::Cause;
 use refusals::Refusal;
-
-const TRAILER_LENGTH: usize = 80;
-
-const MAX_STATIONS: usize = 65536;
+use sheet::TRAILER_LENGTH;
 
 // ---- the trailer
 
@@ -75,7 +69,7 @@ fn pointer(sheet: &[u8]) -> u64
 fn rows_length(kind: u32, n: u32) -> usize
     ensures { λ r. ⌜ r ≡ 8 * rowWidth kind * n ⌝ }
 {
-    64 * (n as usize)
+    rows::kinds::row_length(kind) * (n as usize)
 }
 
 // The bytes before the trailer.
@@ -122,34 +116,6 @@ fn wrong_length(sheet: &[u8]) -> Cause
     Cause::None
 }
 
-// A mesh; or a prism, with two vertices and no faces.
-fn known_kind(kind: u32, vertices: usize, faces: usize) -> bool
-    ensures { λ r. ⌜ r ≡ knownKind kind vertices faces ⌝ }
-{
-    if kind == 1 {
-        return true;
-    }
-    if kind != 2 {
-        return false;
-    }
-    if vertices != 2 {
-        return false;
-    }
-    faces == 0
-}
-
-fn within_counts(vertices: usize, faces: usize, stations: usize) -> bool
-    ensures { λ r. ⌜ r ≡ withinCounts vertices faces stations ⌝ }
-{
-    if MAX_VERTICES < vertices {
-        return false;
-    }
-    if MAX_FACES < faces {
-        return false;
-    }
-    stations <= MAX_STATIONS
-}
-
 // The causes 16, 1 and 2.
 pub fn opening_cause(sheet: &[u8]) -> Cause
     ensures { λ r. ⌜ r ≡ openingCause (now (sheet .entry)) ⌝ }
@@ -161,10 +127,10 @@ pub fn opening_cause(sheet: &[u8]) -> Cause
     let v = vertices(sheet) as usize;
     let f = faces(sheet) as usize;
     let s = stations(sheet) as usize;
-    if !known_kind(kind(sheet), v, f) {
+    if !rows::kinds::known_kind(kind(sheet), v, f) {
         return Cause::Refused(Refusal::Malformed);
     }
-    if !within_counts(v, f, s) {
+    if !rows::kinds::within_counts(v, f, s) {
         return Cause::Refused(Refusal::TooMany);
     }
     Cause::None

@@ -1,2 +1,3 @@
 -- Lemmas that the functions' proofs cite.
+pub mod Stores
 mod Words

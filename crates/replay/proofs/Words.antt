@@ -8,20 +8,22 @@ use lib.Dec.{leb}
 use lib.Pow.{pow-add, pow-mono}
 use borrow.Author.Tests.{le-leb, lt-leb}
 use lib.ListN.{length, getD}
-use Rattle.replay.specs.declared.Word.the-variants.{Is, None}
-use Rattle.replay.specs.Words.{digit, word, wordAt}
+use Rattle.replay.specs.Words.{digit, none, word, wordAt}
 
 module _ (s : List ℕ) (i v d : ℕ) (e : d ≡ digit (getD s i 0)) where
+  abbrev after : ℕ → ℕ
+  after n = word s (i + 1) n (16 * v + digit (getD s i 0))
+
   pub more : (n m j : ℕ) → n ≡ suc m → j ≡ i + 1 → d < 16 → word s i n v ≡ word s j m (16 * v + d)
   unfolding word
-  more n m j p q h = rw (p, q, e) (ap (λ b. cond b None (word s (i + 1) m (16 * v + digit (getD s i 0)))) (ap (leb 16) (sym e) ∙ lt-leb _ _ h))
+  more n m j p q h = rw (p, q, e) (ap (λ b. cond b none (after m)) (ap (leb 16) (sym e) ∙ lt-leb _ _ h))
 
-  pub bad : (n : ℕ) → 0 < n → 16 ≤ d → word s i n v ≡ None
+  pub bad : (n : ℕ) → 0 < n → 16 ≤ d → word s i n v ≡ none
   unfolding word
   bad zero p h = absurd (omega arith)
-  bad (suc n) p h = ap (λ b. cond b None (word s (i + 1) n (16 * v + digit (getD s i 0)))) (ap (leb 16) (sym e) ∙ le-leb _ _ h)
+  bad (suc n) p h = ap (λ b. cond b none (after n)) (ap (leb 16) (sym e) ∙ le-leb _ _ h)
 
-pub done : (s : List ℕ) (i n v : ℕ) → n ≡ 0 → word s i n v ≡ Is v
+pub done : (s : List ℕ) (i n v : ℕ) → n ≡ 0 → word s i n v ≡ v
 unfolding word
 done s i zero v e = refl
 done s i (suc n) v e = absurd (omega arith)
@@ -38,10 +40,10 @@ fits v d i h l k = let b = bound v d i h k in let m : 2 ^ (4 * (i + 1)) ≤ 2 ^ 
 
 -- ---- the number in place k
 
-pub past-end : (s : List ℕ) (k : ℕ) → length s / 17 ≤ k → None ≡ wordAt s k
+pub past-end : (s : List ℕ) (k : ℕ) → length s / 17 ≤ k → none ≡ wordAt s k
 unfolding wordAt
 past-end s k h = simp (le-leb _ _ h)
 
 pub opens : (s : List ℕ) (k : ℕ) → k < length s / 17 → wordAt s k ≡ word s (17 * k + 0) (16 - 0) 0
 unfolding wordAt
-opens s k h = ap (λ b. cond b None (word s (17 * k) 16 0)) (lt-leb _ _ h) ∙ ap (λ (i : ℕ). word s i 16 0) (omega arith)
+opens s k h = ap (λ b. cond b none (word s (17 * k) 16 0)) (lt-leb _ _ h) ∙ ap (λ (i : ℕ). word s i 16 0) (omega arith)

@@ -4,8 +4,8 @@
 ghost use mathlib.Core.Path.{_≡_};
 ghost use Prim.Native.Nat.{_≤_};
 ghost use lib.ListN.{length};
-use libc::STDIN_FILENO;
 use libc::STDOUT_FILENO;
+use replay::lines;
 use sheet::Verdict;
 
 fn is_refused(sheet: &[u8], number: u32, place: u32) -> bool {
@@ -54,69 +54,34 @@ fn limits() -> bool {
     zeros(&mut over, 20001, 2)
 }
 
-fn small(n: u32) -> usize
-    ensures { λ r. ⌜ r ≤ 16384 ⌝ }
-{
-    if n <= 16384 { n as usize } else { 0 }
+// Reads as many bytes as `sheet` has.
+fn holds(sheet: &mut [u8], number: u32, place: u32) -> bool {
+    if !lines::read_line(sheet) {
+        return false;
+    }
+    is_refused(sheet, number, place)
 }
 
-// What the list has next.
-enum Sheet {
-    Same,
-    Differs,
-    End,
-}
-
-// Reads as many bytes as `bytes` has.
-fn replay(bytes: &mut [u8], number: u32, place: u32) -> Sheet {
-    if io::read_full(STDIN_FILENO, bytes) < bytes.len() {
-        return Sheet::Differs;
-    }
-    if is_refused(bytes, number, place) {
-        Sheet::Same
-    } else {
-        Sheet::Differs
-    }
-}
-
-fn next_sheet() -> Sheet {
-    let mut head = [0u8; 12];
-    if io::read_full(STDIN_FILENO, &mut head) < 12 {
-        return Sheet::End;
-    }
-    let n = small(layout::u32_at(&head, 0));
-    let number = layout::u32_at(&head, 4);
-    let place = layout::u32_at(&head, 8);
+// The sheet that this length, number and place begin.
+fn sheet_holds(head: &[u8; 12]) -> bool {
+    let n = lines::small(layout::u32_at(head, 0));
+    let number = layout::u32_at(head, 4);
+    let place = layout::u32_at(head, 8);
     let mut bytes = io::large_buffer();
-    replay(&mut bytes[..n], number, place)
-}
-
-fn report(checked: u64, differ: u64) {
-    io::write_all(STDOUT_FILENO, b"damaged sheets: ");
-    io::print_decimal(STDOUT_FILENO, checked);
-    io::write_all(STDOUT_FILENO, b" checked, ");
-    io::print_decimal(STDOUT_FILENO, differ);
-    io::write_all(STDOUT_FILENO, b" differ\n");
-    if limits() {
-        io::write_all(STDOUT_FILENO, b"limit of V: as it should be\n");
-    }
+    holds(&mut bytes[..n], number, place)
 }
 
 fn main() {
-    let mut checked = 0u64;
-    let mut differ = 0u64;
-    let mut left = 1000000u32;
-    while 0 < left {
-        let next = next_sheet();
-        match next {
-            Sheet::Same => checked = std::num::wrapping_add_u64(checked, 1),
-            Sheet::Differs => {
-                checked = std::num::wrapping_add_u64(checked, 1);
-                differ = std::num::wrapping_add_u64(differ, 1);
-            }
-            Sheet::End => break,
+    let mut t = lines::nothing();
+    for _ in 0..1000000usize {
+        let mut head = [0u8; 12];
+        if !lines::read_line(&mut head) {
+            break;
         }
-        left -= 1;
+        t = lines::count(t, 0, sheet_holds(&head));
     }
-    report(checked, differ);
+    lines::report_as(b"damaged sheets: ", b" checked, ", t, 0);
+    if limits() {
+        io::write_all(STDOUT_FILENO, b"limit of V: as it should be\n");
+    }
 }

@@ -2,101 +2,13 @@
 // the lengths of the vertex list, the face list and work; the two lists; the answer, its number (0 for a
 // volume) and two values; and work afterwards. Then tries the limits of the counts. Prints how many
 // meshes were compared, with all of work, and how many differ.
-ghost use mathlib.Core.Path.{_≡_};
 ghost use Prim.Native.Nat.{_≤_};
 ghost use lib.ListN.{length};
-use libc::STDIN_FILENO;
 use libc::STDOUT_FILENO;
 use mesh::Mesh;
-use refusals::Refusal;
-use replay::Word;
-
-fn doubles_space() -> [f64; 60003]
-    ensures { λ r. ⌜ 60003 ≡ length r ⌝ }
-{
-    [0.0; 60003]
-}
-
-fn indices_space() -> [u32; 98307]
-    ensures { λ r. ⌜ 98307 ≡ length r ⌝ }
-{
-    [0; 98307]
-}
-
-fn word(s: &[u8], k: usize) -> u64 {
-    match replay::word_at(s, k) {
-        Word::Is(w) => w,
-        Word::None => 0xffff_ffff_ffff_ffff,
-    }
-}
-
-// The n numbers from place `at` on.
-fn load_doubles(s: &[u8], at: usize, n: usize) -> [f64; 60003]
-    requires { ⌜ (at ≤ 1000) × (n ≤ 1000) ⌝ }
-    ensures { λ r. ⌜ 60003 ≡ length r ⌝ }
-{
-    let mut out = doubles_space();
-    let mut i = 0;
-    while i < n {
-        out[i] = doubles::of_bits(word(s, at + i));
-        i += 1;
-    }
-    out
-}
-
-fn load_indices(s: &[u8], at: usize, n: usize) -> [u32; 98307]
-    requires { ⌜ (at ≤ 1000) × (n ≤ 1000) ⌝ }
-    ensures { λ r. ⌜ 98307 ≡ length r ⌝ }
-{
-    let mut out = indices_space();
-    let mut i = 0;
-    while i < n {
-        out[i] = (word(s, at + i) % 0x1_0000_0000) as u32;
-        i += 1;
-    }
-    out
-}
-
-// What work holds before the call.
-fn mark(work: &mut [u32])
-    requires { ⌜ length (now work) ≤ 98307 ⌝ }
-{
-    let mut i = 0;
-    while i < work.len() {
-        work[i] = 0xabcd_0000 + (i % 0x1_0000) as u32;
-        i += 1;
-    }
-}
-
-fn same_work(s: &[u8], at: usize, work: &[u32]) -> bool
-    requires { ⌜ (at ≤ 10000) × (length (now work) ≤ 98307) ⌝ }
-{
-    let mut i = 0;
-    while i < work.len() {
-        if word(s, at + i) != work[i] as u64 {
-            return false;
-        }
-        i += 1;
-    }
-    true
-}
-
-// The first value of a refusal and the second, 0 where there is none.
-fn first(r: Refusal) -> u32 {
-    match r {
-        Refusal::Flipped(a, _) => a,
-        Refusal::Open(a, _) => a,
-        _ => refusals::place(r),
-    }
-}
-
-fn second(r: Refusal) -> u32 {
-    match r {
-        Refusal::Flipped(_, b) => b,
-        Refusal::Open(_, b) => b,
-        _ => 0,
-    }
-}
+use replay::lines;
+use replay::runs;
+use replay::word_at;
 
 fn is(m: Mesh, number: u64, a: u64, b: u64) -> bool {
     match m {
@@ -110,44 +22,46 @@ fn is(m: Mesh, number: u64, a: u64, b: u64) -> bool {
             if refusals::number(r) as u64 != number {
                 return false;
             }
-            if first(r) as u64 != a {
+            if runs::first(r) as u64 != a {
                 return false;
             }
-            second(r) as u64 == b
+            runs::second(r) as u64 == b
         }
     }
 }
 
-// Whether the mesh has the answer and the work that stand in place p and after.
-fn answers(verts: &[f64], faces: &[u32], work: &mut [u32], s: &[u8], p: usize) -> bool
-    requires { ⌜ (p ≤ 2000) × (length (now work) ≤ 98307) ⌝ }
+// Whether a line but for its lengths, the two lists, the answer and work, is right. The lists are read into room of their lengths.
+fn answers(s: &[u8], verts: &mut [f64], faces: &mut [u32], work: &mut [u32]) -> bool
+    requires { ⌜ (length (now verts) ≤ 1000) × (length (now faces) ≤ 1000) × (length (now work) ≤ 1000) ⌝ }
 {
-    mark(work);
-    let m = mesh::check_mesh(verts, faces, work);
-    if !is(m, word(s, p), word(s, p + 1), word(s, p + 2)) {
+    runs::read_doubles(s, 0, verts);
+    runs::read_indices(s, verts.len(), faces);
+    runs::mark(work);
+    let m = check_mesh::check_mesh(verts, faces, work);
+    let k = verts.len() + faces.len();
+    if !is(m, word_at(s, k), word_at(s, k + 1), word_at(s, k + 2)) {
         return false;
     }
-    same_work(s, p + 3, work)
+    runs::same_work(s, k + 3, work)
 }
 
-// The same of a whole line but for its lengths: v numbers, f indices, the answer, n entries of work.
 fn agrees(s: &[u8], v: usize, f: usize, n: usize) -> bool
     requires { ⌜ (v ≤ 1000) × (f ≤ 1000) × (n ≤ 1000) ⌝ }
 {
-    let verts = load_doubles(s, 0, v);
-    let faces = load_indices(s, v, f);
-    let mut work = indices_space();
-    answers(&verts[..v], &faces[..f], &mut work[..n], s, v + f)
+    let mut verts = runs::vertex_room();
+    let mut faces = runs::face_room();
+    let mut work = runs::face_room();
+    answers(s, &mut verts[..v], &mut faces[..f], &mut work[..n])
 }
 
 // The answer to v zeros as vertices and f zeros as faces.
 fn zeros(v: usize, f: usize) -> Mesh
     requires { ⌜ (v ≤ 60003) × (f ≤ 98307) ⌝ }
 {
-    let verts = doubles_space();
-    let faces = indices_space();
-    let mut work = indices_space();
-    mesh::check_mesh(&verts[..v], &faces[..f], &mut work)
+    let verts = runs::vertex_room();
+    let faces = runs::face_room();
+    let mut work = runs::face_room();
+    check_mesh::check_mesh(&verts[..v], &faces[..f], &mut work)
 }
 
 // V = 20,000 and F = 32,768 are within the limits: no faces is 8, and zeros as faces are Flipped(0, 0). One more of either is 2.
@@ -164,71 +78,36 @@ fn limits() -> bool {
     is(zeros(60000, 98307), 2, 0, 0)
 }
 
-fn small(w: u64) -> usize
-    ensures { λ r. ⌜ r ≤ 1000 ⌝ }
-{
-    if w <= 1000 { w as usize } else { 1000 }
-}
-
-// What the list has next.
-enum Line {
-    Same,
-    Differs,
-    End,
-}
-
-// Reads as many bytes as `line` has.
-fn rest_of_line(line: &mut [u8], v: usize, f: usize, n: usize) -> Line
+// Reads as many bytes as `line` has, the rest of a line.
+fn rest_agrees(line: &mut [u8], v: usize, f: usize, n: usize) -> bool
     requires { ⌜ (v ≤ 1000) × (f ≤ 1000) × (n ≤ 1000) ⌝ }
 {
-    if io::read_full(STDIN_FILENO, line) < line.len() {
-        return Line::Differs;
+    if !lines::read_line(line) {
+        return false;
     }
-    if agrees(line, v, f, n) {
-        Line::Same
-    } else {
-        Line::Differs
-    }
+    agrees(line, v, f, n)
 }
 
-fn next_line() -> Line {
-    let mut lengths = [0u8; 51];
-    if io::read_full(STDIN_FILENO, &mut lengths) < 51 {
-        return Line::End;
-    }
-    let v = small(word(&lengths, 0));
-    let f = small(word(&lengths, 1));
-    let n = small(word(&lengths, 2));
+// The line that these lengths begin.
+fn line_agrees(lengths: &[u8]) -> bool {
+    let v = runs::length_at(lengths, 0);
+    let f = runs::length_at(lengths, 1);
+    let n = runs::length_at(lengths, 2);
     let mut bytes = io::large_buffer();
-    rest_of_line(&mut bytes[..17 * (v + f + n + 3)], v, f, n)
-}
-
-fn report(compared: u64, differ: u64) {
-    io::write_all(STDOUT_FILENO, b"check_mesh: ");
-    io::print_decimal(STDOUT_FILENO, compared);
-    io::write_all(STDOUT_FILENO, b" compared, ");
-    io::print_decimal(STDOUT_FILENO, differ);
-    io::write_all(STDOUT_FILENO, b" differ\n");
-    if limits() {
-        io::write_all(STDOUT_FILENO, b"limits of V and F: as they should be\n");
-    }
+    rest_agrees(&mut bytes[..17 * (v + f + n + 3)], v, f, n)
 }
 
 fn main() {
-    let mut compared = 0u64;
-    let mut differ = 0u64;
-    let mut left = 1000000u32;
-    while 0 < left {
-        let line = next_line();
-        match line {
-            Line::Same => compared = std::num::wrapping_add_u64(compared, 1),
-            Line::Differs => {
-                compared = std::num::wrapping_add_u64(compared, 1);
-                differ = std::num::wrapping_add_u64(differ, 1);
-            }
-            Line::End => break,
+    let mut t = lines::nothing();
+    for _ in 0..1000000usize {
+        let mut lengths = [0u8; 51];
+        if !lines::read_line(&mut lengths) {
+            break;
         }
-        left -= 1;
+        t = lines::count(t, 0, line_agrees(&lengths));
     }
-    report(compared, differ);
+    lines::report(b"check_mesh: ", t, 0);
+    if limits() {
+        io::write_all(STDOUT_FILENO, b"limits of V and F: as they should be\n");
+    }
 }

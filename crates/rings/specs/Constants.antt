@@ -8,8 +8,5 @@ abbrev pub 9·10⁻⁸ : Float
 abbrev pub 16·0 : Float
 16·0 = ofBits binary64 0x4030_0000_0000_0000
 
-abbrev pub 24·0 : Float
-24·0 = ofBits binary64 0x4038_0000_0000_0000
-
 abbrev pub 72·0 : Float
 72·0 = ofBits binary64 0x4052_0000_0000_0000

@@ -1,7 +1,5 @@
--- K(m) and E(m), Bulirsch's cel, and the ring.
+-- K(m) and E(m), the public call of cel, and the ring.
 pub mod Constants
 pub mod Elliptic
 pub mod Cel
-pub mod CelAsWritten
 pub mod Ring
-pub mod WorkedExamples

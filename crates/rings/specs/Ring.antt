@@ -4,13 +4,13 @@
 use mathlib.Core.Bool.{Bool, _&&_, cond}
 use lib.Ieee.{Float, neg, lt, le, eq}
 use Rattle.doubles.specs.Rounded.{_⊕_, _⊖_, _⊗_, _⊘_}
-use Rattle.doubles.specs.Constants.{0·0, 0·5, 1·0, 2·0, 4·0, 9·0, π}
+use Rattle.doubles.specs.Constants.{0·0, 0·5, 1·0, 2·0, 4·0, 9·0, 24·0, π}
 use Rattle.doubles.specs.Magnitude.{withinLimits}
 use Rattle.roots.specs.Root.{Root}
 use Rattle.refusals.specs.declared.Refusal.the-variants.{OutOfLimits, OutsideDomain}
-use Rattle.rings.specs.Constants.{9·10⁻⁸, 16·0, 24·0, 72·0}
+use Rattle.rings.specs.Constants.{9·10⁻⁸, 16·0, 72·0}
 use Rattle.rings.specs.Elliptic.{elliptic}
-use Rattle.rings.specs.Cel.{celOf}
+use Rattle.bulirsch.specs.Bulirsch.{celOf}
 use Rattle.rings.specs.declared.RingAverage.{RingAverage}
 use Rattle.rings.specs.declared.RingAnswer.{RingAnswer}
 use Rattle.rings.specs.declared.RingAnswer.the-variants.{Value, Refused}

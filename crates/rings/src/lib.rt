@@ -4,21 +4,11 @@ use refusals::Refusal;
 ghost use mathlib.Core.Path.{_≡_};
 ghost use Rattle.carlson.specs.Rounds.{rounds};
 ghost use Rattle.rings.specs.Elliptic.{maxMeans, nextMean, meanTest, elliptic, completeElliptic};
-ghost use Rattle.rings.specs.Cel.{maxTurns, firstHalf, secondHalf, turn, celTest, celEnd, celOf, allFinite, cel};
+ghost use Rattle.rings.specs.Cel.{allFinite, cel};
 ghost use Rattle.rings.specs.Ring.{nearAxis, offAxis, ∂ρ, ringAt, inDomain, ringWithin, ring};
 
-const FRAC_PI_2: f64 = 1.5707963267948966;
-
-const PI: f64 = 3.141592653589793;
-
-// 2^-52
-const EPSILON: f64 = 0.0000000000000002220446049250313;
-
-// The Rust's loops end after 64 rounds and refuse nothing. The first half of cel's first round
-// stands before its loop.
+// The Rust's loop ends after 64 rounds and refuses nothing.
 const MAX_MEANS: u32 = 64;
-
-const MAX_TURNS: u32 = 63;
 
 // The arithmetic-geometric mean's a, b and c at round n, the sum of 2^(n-1) c^2, and 2^(n-1).
 pub struct Mean {
@@ -38,17 +28,6 @@ pub struct Complete {
 pub enum CompleteIntegrals {
     Values(Complete),
     Refused(Refusal),
-}
-
-// Bulirsch's k_c, e, m, p, a and b, and the m before.
-pub struct Bulirsch {
-    pub kc: f64,
-    pub e: f64,
-    pub m: f64,
-    pub previous: f64,
-    pub p: f64,
-    pub a: f64,
-    pub b: f64,
 }
 
 // The average of 1/r over a ring, and its derivatives by ρ and z.
@@ -83,7 +62,7 @@ fn next_mean(s: Mean) -> Mean
 fn mean_test(s: Mean) -> bool
     ensures { λ r. ⌜ r ≡ meanTest s ⌝ }
 {
-    !(s.c <= EPSILON * s.a)
+    !(s.c <= doubles::EPSILON * s.a)
 }
 
 // Rounds of the mean while its test holds, at most MAX_MEANS.
@@ -115,7 +94,7 @@ pub fn elliptic(m: f64) -> Complete
         sum: 0.5 * m,
         weight: 0.5,
     });
-    let k = FRAC_PI_2 / s.a;
+    let k = doubles::FRAC_PI_2 / s.a;
     Complete {
         k,
         e: k * (1.0 - s.sum),
@@ -136,90 +115,6 @@ pub fn complete_elliptic(m: f64) -> CompleteIntegrals
 
 // ---- cel
 
-// The first half of a round.
-fn first_half(s: Bulirsch) -> Bulirsch
-    ensures { λ r. ⌜ r ≡ firstHalf s ⌝ }
-{
-    let g = s.e / s.p;
-    Bulirsch {
-        kc: s.kc,
-        e: s.e,
-        m: s.m + s.kc,
-        previous: s.m,
-        p: s.p + g,
-        a: s.a + s.b / s.p,
-        b: 2.0 * (s.b + s.a * g),
-    }
-}
-
-// The second half.
-fn second_half(s: Bulirsch) -> Bulirsch
-    ensures { λ r. ⌜ r ≡ secondHalf s ⌝ }
-{
-    let k = 2.0 * roots::root(s.e);
-    Bulirsch {
-        kc: k,
-        e: k * s.m,
-        m: s.m,
-        previous: s.previous,
-        p: s.p,
-        a: s.a,
-        b: s.b,
-    }
-}
-
-fn turn(s: Bulirsch) -> Bulirsch
-    ensures { λ r. ⌜ r ≡ turn s ⌝ }
-{
-    first_half(second_half(s))
-}
-
-fn cel_test(s: Bulirsch) -> bool
-    ensures { λ r. ⌜ r ≡ celTest s ⌝ }
-{
-    !(doubles::abs(s.previous - s.kc) <= s.previous * 1e-15)
-}
-
-// The second half of a round and the first of the next while the test holds, at most MAX_TURNS.
-fn repeat_turn(s: Bulirsch) -> Bulirsch
-    ensures { λ r. ⌜ r ≡ rounds celTest turn maxTurns s ⌝ }
-{
-    let mut t = s;
-    let mut n: u32 = 0;
-    while n < MAX_TURNS {
-        if !cel_test(t) {
-            return t;
-        }
-        t = turn(t);
-        n += 1;
-    }
-    t
-}
-
-fn cel_end(s: Bulirsch) -> f64
-    ensures { λ r. ⌜ r ≡ celEnd s ⌝ }
-{
-    FRAC_PI_2 * (s.a * s.m + s.b) / (s.m * (s.m + s.p))
-}
-
-// cel without the tests of its domain: what inner calls use.
-pub fn cel_of(kc: f64, p: f64, a: f64, b: f64) -> f64
-    ensures { λ r. ⌜ r ≡ celOf kc p a b ⌝ }
-{
-    let k = doubles::abs(kc);
-    let sp = roots::root(p);
-    let first = first_half(Bulirsch {
-        kc: k,
-        e: k,
-        m: 1.0,
-        previous: 1.0,
-        p: sp,
-        a,
-        b: b / sp,
-    });
-    cel_end(repeat_turn(first))
-}
-
 fn all_finite(kc: f64, p: f64, a: f64, b: f64) -> bool
     ensures { λ r. ⌜ r ≡ allFinite kc p a b ⌝ }
 {
@@ -239,7 +134,7 @@ pub fn cel(kc: f64, p: f64, a: f64, b: f64) -> Integral
 {
     if all_finite(kc, p, a, b) {
         if 0.0 < p {
-            return Integral::Value(cel_of(kc, p, a, b));
+            return Integral::Value(bulirsch::cel_of(kc, p, a, b));
         }
     }
     Integral::Refused(Refusal::OutsideDomain)
@@ -263,7 +158,7 @@ fn off_axis(radius: f64, rho: f64, s: f64, d: f64) -> f64
 {
     let kc = roots::root(d / s); // √(1 - m), without the subtraction near the wire
     let w = roots::root(s);
-    -2.0 / (PI * (s * w)) * cel_of(kc, kc * kc, rho + radius, rho - radius)
+    -2.0 / (doubles::PI * (s * w)) * bulirsch::cel_of(kc, kc * kc, rho + radius, rho - radius)
 }
 
 // The derivative by ρ.
@@ -286,9 +181,9 @@ fn ring_at(radius: f64, rho: f64, z: f64, s: f64, d: f64, m: f64) -> RingAverage
     let c = elliptic(m);
     let w = roots::root(s);
     RingAverage {
-        v: 2.0 / PI * c.k / w,
+        v: 2.0 / doubles::PI * c.k / w,
         drho: by_rho(radius, rho, z, s, d),
-        dz: -2.0 / PI * z * c.e / (w * d),
+        dz: -2.0 / doubles::PI * z * c.e / (w * d),
     }
 }
 

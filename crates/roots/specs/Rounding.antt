@@ -2,7 +2,7 @@
 use mathlib.Core.Path.{_≡_, refl, sym, ap, _∙_, subst}
 use mathlib.Core.Logic.{_⊎_, inl, inr, ⊎-elim}
 use Prim.Native.Nat.{ℕ, zero, suc, _+_, _-_, _*_, _/_, _%_, _^_, _≤_, _<_, compare, Ordering, Ordering·lt, Ordering·eq, Ordering·gt}
-use native.Mathlib.Nat.{le-trans, le-of-eq, le-of-lt, lt-of-lt-of-le, lt-of-le-of-lt, lt-of-not-le, not-le-of-lt, mul-le-mul, mul-le-mul-left, mul-le-mul-right, mul-lt-mul-of-pos-right, lt-of-mul-lt-mul-right, mul-assoc, div-mul-le-self, lt-div-mul-add, le-div-iff-mul-le}
+use native.Mathlib.Nat.{le-trans, le-of-eq, le-of-lt, lt-of-lt-of-le, lt-of-le-of-lt, lt-of-not-le, not-le-of-lt, mul-le-mul, mul-le-mul-left, mul-le-mul-right, mul-lt-mul-of-pos-left, mul-lt-mul-of-pos-right, lt-of-mul-lt-mul-right, mul-assoc, div-mul-le-self, lt-div-mul-add, le-div-iff-mul-le}
 use native.Mathlib.Omega.{arith}
 use native.Mathlib.Decide.{decLe}
 use mathlib.Core.Bool.{false, not}
@@ -213,9 +213,6 @@ module _ (n c k : ℕ) (r : Rounded n c k) where
           let b : z * R < z * z = mul-lt-mul-of-pos-left g (omega arith) in
           let d : R * R ≤ z * R = mul-le-mul-right R (le-of-lt g) in
           omega arith
-        where
-          mul-lt-mul-of-pos-left : {a b z : ℕ} → a < b → 0 < z → z * a < z * b
-          mul-lt-mul-of-pos-left {a} {b} {z} g p = let x : a * z < b * z = mul-lt-mul-of-pos-right g p in omega arith
 
       either : Dec (p * 2 ^ j ≤ R) → p * 2 ^ j ≤ R
       either (yes g) = g

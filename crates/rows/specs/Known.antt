@@ -6,9 +6,9 @@ use Prim.Native.Nat.{ℕ, _≤_}
 use lib.Ieee.{Float}
 use lib.ListN.{length}
 use Rattle.mesh.specs.Surface.{Body}
-use Rattle.polyhedron.specs.Centroid.{centroid, radius}
+use Rattle.centroid.specs.Centroid.{centroid, radius}
 use Rattle.rows.specs.declared.Center.{Center}
-use Rattle.rows.specs.Row.{isMesh}
+use Rattle.rows.specs.Kinds.{isMesh}
 
 -- a mesh's center is its centroid and radius; of a prism nothing is said
 abbrev pub CenterOf : ℕ → Center → List Float → List ℕ → Type 0

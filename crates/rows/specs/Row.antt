@@ -1,9 +1,8 @@
 -- The row of a station, as document 01 says it: V, three gradient parts, three of `body` of the Hessian and magnetisation, and `total_field` of the ambient field and
--- those three. What it holds, the magnetic constant and the rule for the longest axis go by the sheet's kind. `v` is the vertex list and `f` the face list. Definitions only.
-use mathlib.Core.Bool.{Bool, true, false, _&&_, cond}
+-- those three. The magnetic constant and the rule for the longest axis go by the sheet's kind. `v` is the vertex list and `f` the face list. Definitions only.
+use mathlib.Core.Bool.{Bool, true, _&&_, cond}
 use mathlib.Core.List.{List, [], _∷_}
-use Prim.Native.Nat.{ℕ, _*_}
-use lib.Dec.{eqb}
+use Prim.Native.Nat.{ℕ}
 use lib.Ieee.{Float}
 use lib.Ieee.Scale.{finite}
 use Rattle.refusals.specs.Answer.{Answer, value, refused}
@@ -15,39 +14,17 @@ use Rattle.newtonian.specs.declared.Vector.{Vector}
 use Rattle.newtonian.specs.declared.Newtonian.{Newtonian}
 use Rattle.mesh.specs.Surface.{vertex}
 use Rattle.prism.specs.Prism.{prismAt}
-use Rattle.prism.specs.declared.AxisRule.{AxisRule}
-use Rattle.prism.specs.declared.AxisRule.the-variants.{LastOfEquals}
 use Rattle.polyhedron.specs.Polyhedron.{polyhedronAt}
-use Rattle.anomaly.specs.Body.{μ₀/4π, bodyOf}
+use Rattle.anomaly.specs.Body.{bodyOf}
 use Rattle.anomaly.specs.TotalField.{totalFieldOf}
 use Rattle.rows.specs.declared.Row.{Row}
 use Rattle.rows.specs.declared.RowAnswer.{RowAnswer}
 use Rattle.rows.specs.declared.RowAnswer as answers
-
--- ---- the kinds
-
-abbrev pub meshKind : ℕ
-meshKind = 1
-
-abbrev pub prismKind : ℕ
-prismKind = 2
-
-unfoldable pub isMesh : ℕ → Bool
-isMesh kind = eqb kind meshKind
-
--- how many numbers a row has, each of 8 bytes
-abbrev pub rowWidth : ℕ → ℕ
-rowWidth kind = 8
-
-abbrev pub axisRule : ℕ → AxisRule
-axisRule kind = LastOfEquals
-
-abbrev pub magneticConstant : ℕ → Float
-magneticConstant kind = μ₀/4π
+use Rattle.rows.specs.Kinds.{isMesh, axisRule, magneticConstant}
 
 -- ---- the row
 
--- the field at the station p of number i: the polyhedron's, or that of the prism from vertex 0 to vertex 1
+-- the field at the station p of number i: of a mesh the polyhedron's, otherwise that of the prism from vertex 0 to vertex 1 (cause 1 leaves no third kind)
 unfoldable pub fieldAt : ℕ → ℕ → Vector → List Float → List ℕ → Answer Newtonian
 fieldAt kind i p v f = cond (isMesh kind) (polyhedronAt i p v f) (prismAt (axisRule kind) i p (vertex v 0) (vertex v 1))
 

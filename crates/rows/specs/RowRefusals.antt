@@ -16,7 +16,8 @@ use Rattle.prism.specs.Prism.{prismAt}
 use Rattle.prism.specs.PrismRefusals.{prismAt-refused}
 use Rattle.polyhedron.specs.Polyhedron.{polyhedronAt}
 use Rattle.polyhedron.specs.PolyhedronLaws.{at-refused}
-use Rattle.rows.specs.Row.{isMesh, axisRule, fieldAt, inRow, rowAt}
+use Rattle.rows.specs.Kinds.{isMesh, axisRule}
+use Rattle.rows.specs.Row.{fieldAt, inRow, rowAt}
 
 of-field : (kind : ℕ) (m b : Vector) (g : Answer Newtonian) (r : Refusal) → inRow kind m b g ≡ refused r → g ≡ refused r
 of-field kind m b (value g) r e = absurd (let z : _≡_ {A = ℕ} 0 1 = cc in omega arith)

@@ -1,17 +1,19 @@
 // The row of a station.
+pub mod kinds;
+
 ghost use mathlib.Core.Path.{_≡_};
 ghost use mathlib.Core.Bool.{true};
-ghost use Prim.Native.Nat.{_*_, _≤_};
 ghost use Rattle.newtonian.specs.Field as newtonian;
-ghost use Rattle.orders.specs.Edges.{maxVertices};
 ghost use Rattle.orders.specs.Order.{orderList};
-ghost use Rattle.mesh.specs.Surface.{Body, vertexCount};
-ghost use Rattle.rows.specs.Row.{isMesh, rowWidth, fieldAt, rowFrom, rowAt, rowNumbers, allFinite, isFiniteRow, rowCause, answerOf};
+ghost use Rattle.mesh.specs.Surface.{Body};
+ghost use Rattle.rows.specs.Kinds.{isMesh};
+ghost use Rattle.rows.specs.Row.{fieldAt, rowFrom, rowAt, rowNumbers, allFinite, isFiniteRow, rowCause, answerOf};
 ghost use Rattle.rows.specs.Known.{CenterOf, Known};
+use crate::kinds::ROW_NUMBERS;
+use bisection::AxisRule;
 use newtonian::Field;
 use newtonian::Newtonian;
 use newtonian::Vector;
-use prism::AxisRule;
 use refusals::Cause;
 use refusals::Refusal;
 
@@ -34,29 +36,16 @@ pub struct Center {
     pub radius: f64,
 }
 
-pub fn is_mesh(kind: u32) -> bool
-    ensures { λ r. ⌜ r ≡ isMesh kind ⌝ }
-{
-    kind == 1
-}
-
-// The bytes of a row.
-pub fn row_length(kind: u32) -> usize
-    ensures { λ r. ⌜ r ≡ 8 * rowWidth kind ⌝ }
-{
-    64
-}
-
 // Taken once for all stations. A prism has none, and gets zeros.
 pub fn center_of(kind: u32, verts: &[f64], faces: &[u32], order: &[u32]) -> Center
-    requires { ⌜ (isMesh kind ≡ true → Body (now verts) (now faces) × (now order ≡ orderList (now faces)) × (vertexCount (now verts) ≤ maxVertices)) ⌝ }
+    requires { ⌜ (isMesh kind ≡ true → Body (now verts) (now faces) × (now order ≡ orderList (now faces))) ⌝ }
     ensures { λ r. ⌜ CenterOf kind r (now (verts .entry)) (now (faces .entry)) ⌝ }
 {
-    if is_mesh(kind) {
-        let c = polyhedron::centroid(verts, faces, order);
+    if kinds::is_mesh(kind) {
+        let c = centroid::centroid(verts, faces, order);
         return Center {
             centroid: c,
-            radius: polyhedron::radius(c, verts, faces, order),
+            radius: centroid::radius(c, verts, faces, order),
         };
     }
     Center {
@@ -74,7 +63,7 @@ fn field_at(kind: u32, i: u32, p: Vector, c: Center, verts: &[f64], faces: &[u32
     requires { ⌜ Known kind c (now verts) (now faces) ⌝ }
     ensures { λ r. ⌜ newtonian.answerOf r ≡ fieldAt kind i p (now (verts .entry)) (now (faces .entry)) ⌝ }
 {
-    if is_mesh(kind) {
+    if kinds::is_mesh(kind) {
         return polyhedron::polyhedron_at(i, p, c.centroid, c.radius, verts, faces);
     }
     let lo = mesh::surface::vertex(verts, 0);
@@ -115,7 +104,7 @@ pub fn row_at(
 }
 
 // The numbers that the sheet holds of a row.
-pub fn row_numbers(kind: u32, row: Row) -> [f64; 8]
+pub fn row_numbers(kind: u32, row: Row) -> [f64; ROW_NUMBERS]
     ensures { λ r. ⌜ r ≡ rowNumbers kind row ⌝ }
 {
     let g = row.field.gradient;

@@ -17,31 +17,39 @@ use Rattle.refusals.specs.Causes.{firstOf}
 use Rattle.refusals.specs.declared.Refusal.the-variants.{WrongVolume, WrongRow}
 use Rattle.refusals.specs.declared.Cause.the-variants.{None}
 use Rattle.refusals.proofs.Causes.{both, holds, each, from-each}
-use Rattle.lists.proofs.Numbers as numbers
 use Rattle.orders.specs.Edges.{Faces}
 use Rattle.orders.specs.Order.{orderList}
 use Rattle.orders.specs.Mates.{mates}
 use Rattle.mesh.specs.Surface.{vertex, normal, isZero}
 use Rattle.mesh.specs.Check as mesh
+use Rattle.mesh.specs.Check.{facesCause}
 use Rattle.mesh.specs.Accepted.{Counted, Closed}
 use Rattle.mesh.specs.CauseLaws.{body, none-degenerate, none-inverted}
-use Rattle.mesh.specs.Laws.{closed-pairs}
+use Rattle.mesh_laws.specs.Laws.{closed-pairs}
 use Rattle.layout.specs.LittleEndian.{pack, unpack, bits, doubles, IsBytes}
 use Rattle.layout.specs.Parts.{Part, joined}
 use Rattle.layout.proofs.Bits.{bits-doubles}
 use Rattle.layout.proofs.Lists.{unpack-lt, pack-unpack}
 use Rattle.layout.proofs.Files.{joined-split}
-use Rattle.rows.specs.Row.{meshKind, prismKind, rowWidth, rowNumbers}
+use Rattle.rows.specs.Kinds.{meshKind, prismKind, isMesh, rowWidth}
+use Rattle.rows.specs.Row.{rowNumbers}
 use Rattle.rows.specs.declared.Row.{Row}
+use Rattle.newtonian.specs.Vectors.{vectorNumbers}
 use Rattle.sheet.specs.Input.{SheetInput, vertexCount, faceCount, stationCount, rowAt}
-use Rattle.sheet.specs.Bytes.{pointer, volume, vectorNumbers, sheetLength, numbersOf, rows, parts, sheetBytes}
+use Rattle.sheet.specs.Bytes.{pointer, volume, sheetLength, numbersOf, rows, parts, sheetBytes}
 use Rattle.sheet.specs.Writer.{malformed, tooMany, outOfLimits, noSuchVertex, bodyCause, stationCause, writerCause}
-use Rattle.sheet.specs.Checker.{trailer, kindIn, verticesIn, facesIn, stationsIn, volumeIn, pointerIn, stationsStart, rowsStart, rowStart, vectorIn, parse, orderIn, matesIn, wrongOrder, wrongMate, solidCause, wrongLength, wrongVolume, wrongRow, checkStation, checkerCause}
+use Rattle.sheet.specs.Checker.{trailer, kindIn, verticesIn, facesIn, stationsIn, volumeIn, pointerIn, pointerFor, stationsStart, rowsStart, rowStart, vectorIn, parse, orderIn, matesIn, wrongOrder, wrongMate, solidCause, wrongLength, wrongVolume, wrongRow, checkStation, checkerCause}
 use Rattle.sheet.specs.Promises.{AllInLimits, VectorInLimits, NoCause, RowStored, Right}
 use Rattle.sheet.specs.WriterLaws.{Known, two-kinds, no-cause, none-malformed, none-limits-all, none-vertex-all, none-station, short-none, counted, is-mesh, is-prism, body-mesh}
 use Rattle.sheet.specs.PrismVolume.{prism-positive}
 use Rattle.sheet.specs.OrderAndMates.{is-order, is-mates, is-closed}
-use Rattle.sheet.specs.Reading.{plan, pointerFor, placed, plan-split, kind-read, vertices-read, faces-read, stations-read, order-in-length, mates-in-length, pointer-read, none-length, same-list, rows-join}
+use Rattle.sheet.specs.Reading.{plan, placed, plan-split, kind-read, vertices-read, faces-read, stations-read, order-in-length, mates-in-length, pointer-read, none-length, same-list, rows-join}
+
+-- ---- 7 and 8 of a mesh are those of `check_mesh`, in its order
+
+pub solid-mesh : (s : SheetInput) → isMesh (s .kind) ≡ true → solidCause s ≡ facesCause (s .vertices) (s .faces)
+unfolding solidCause facesCause
+solid-mesh s m = rw m
 
 -- ---- a number within the limits is no NaN, so its bits are kept
 

@@ -3,23 +3,20 @@ use mathlib.Core.Bool.{cond}
 use mathlib.Core.List.{List, [], _∷_, _++_}
 use Prim.Native.Nat.{ℕ, zero, suc, _+_, _*_}
 use lib.Ieee.{Float}
-use Rattle.doubles.specs.Rounded.{_⊖_, _⊗_}
 use Rattle.refusals.specs.Answer.{Answer, value, refused}
-use Rattle.newtonian.specs.declared.Vector.{Vector}
+use Rattle.newtonian.specs.Vectors.{vectorNumbers}
 use Rattle.orders.specs.Order.{orderList}
 use Rattle.orders.specs.Mates.{mates}
 use Rattle.mesh.specs.Surface as surface
+use Rattle.prism.specs.Prism.{prismVolume}
 use Rattle.layout.specs.LittleEndian.{bits}
 use Rattle.layout.specs.Parts.{Part, joined}
-use Rattle.rows.specs.Row.{isMesh, rowWidth, rowNumbers}
+use Rattle.rows.specs.Kinds.{isMesh, rowWidth}
+use Rattle.rows.specs.Row.{rowNumbers}
 use Rattle.rows.specs.declared.Row.{Row}
 use Rattle.sheet.specs.Input.{SheetInput, vertexCount, faceCount, stationCount, rowAt}
 
 -- ---- the volume
-
--- the three sides of the prism from lo to hi, multiplied left to right
-unfoldable pub prismVolume : Vector → Vector → Float
-prismVolume lo hi = (hi .x ⊖ lo .x) ⊗ (hi .y ⊖ lo .y) ⊗ (hi .z ⊖ lo .z)
 
 unfoldable pub volume : SheetInput → Float
 volume s =
@@ -36,9 +33,6 @@ abbrev pub pointerOf : ℕ → ℕ → ℕ → ℕ → ℕ
 pointerOf kind v f s = 24 * v + 36 * f + (24 + 8 * rowWidth kind) * s
 
 -- ---- the bytes
-
-abbrev pub vectorNumbers : Vector → List Float
-vectorNumbers v = v .x ∷ v .y ∷ v .z ∷ []
 
 module _ (s : SheetInput) where
   abbrev pub pointer : ℕ

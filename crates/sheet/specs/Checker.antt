@@ -4,8 +4,7 @@ use mathlib.Core.List.{List, [], _∷_}
 use Prim.Native.Nat.{ℕ, _+_, _*_, _-_}
 use lib.Dec.{eqb, ltb, leb}
 use lib.ListN.{length, getD, take, drop}
-use lib.Ieee.{Float, binary64, nan, toBits}
-use Rattle.refusals.specs.Answer.{Answer, value, refused}
+use lib.Ieee.{binary64, toBits}
 use Rattle.refusals.specs.Causes.{orElse, unless, firstOf}
 use Rattle.refusals.specs.declared.Refusal.the-variants.{WrongLength, WrongOrder, WrongMate, WrongVolume, WrongRow}
 use Rattle.refusals.specs.declared.Cause.{Cause}
@@ -15,7 +14,7 @@ use Rattle.newtonian.specs.declared.Vector.{Vector}
 use Rattle.mesh.specs.Surface.{vertex}
 use Rattle.mesh.specs.Check as mesh
 use Rattle.layout.specs.LittleEndian.{number, unpack, bits, doubles}
-use Rattle.rows.specs.Row.{isMesh, rowWidth}
+use Rattle.rows.specs.Kinds.{isMesh, rowWidth}
 use Rattle.sheet.specs.Input.{SheetInput, stationCount, rowAt}
 use Rattle.sheet.specs.Bytes.{trailerLength, pointerOf, volume, numbersOf}
 use Rattle.sheet.specs.Writer.{malformed, tooMany, outOfLimits, noSuchVertex, tooThin, stationCause}
@@ -78,6 +77,10 @@ module _ (b : List ℕ) where
   abbrev pub pointerIn : ℕ
   pointerIn = number 8 b (trailer + 72)
 
+  -- what the pointer has to be by the counts
+  abbrev pub pointerFor : ℕ
+  pointerFor = pointerOf kindIn verticesIn facesIn stationsIn
+
   -- ---- where the parts begin; the vertices begin at 0
 
   abbrev pub facesStart : ℕ
@@ -126,9 +129,7 @@ module _ (b : List ℕ) where
 
   -- 16: under 80 bytes, or the pointer or the length is not what the counts give
   unfoldable pub wrongLength : Cause
-  wrongLength =
-      let before = pointerOf kindIn verticesIn facesIn stationsIn in
-      unless (leb trailerLength (length b) && (eqb pointerIn before && eqb (length b) (before + trailerLength))) WrongLength
+  wrongLength = unless (leb trailerLength (length b) && (eqb pointerIn pointerFor && eqb (length b) (pointerFor + trailerLength))) WrongLength
 
   -- 19: the volume's bits differ
   unfoldable pub wrongVolume : SheetInput → Cause

@@ -31,14 +31,15 @@ use Rattle.edge_terms.specs.declared.Corner.{Corner}
 use Rattle.edge_terms.specs.declared.Side.{Side}
 use Rattle.edge_face_sums.specs.declared.Triangle.{Triangle}
 use Rattle.edge_face_sums.specs.EdgeFaceSums.{Sums, noSums, triangleOf, addSide, addTriangle, sumsOf, fieldOf, edgeFaceSums}
-use Rattle.polyhedron.specs.Centroid.{centroid, radius}
+use Rattle.centroid.specs.Centroid.{centroid, radius}
 use Rattle.polyhedron.specs.Polyhedron.{isFar, polyhedronFrom, polyhedronAt}
-use Rattle.rows.specs.Row.{isMesh, axisRule, fieldAt}
-use Rattle.prism.specs.declared.AxisRule.{AxisRule}
-use Rattle.prism.specs.declared.Piece.{Piece}
-use Rattle.prism.specs.declared.Piece.the-variants.{Whole, Halves}
-use Rattle.prism.specs.declared.Axis.{Axis}
-use Rattle.prism.specs.Bisection.{distance, order, affordable, longest, shortest, along, with, farthest, tooRough, bisected, near, outside, pieceOf}
+use Rattle.rows.specs.Kinds.{isMesh, axisRule}
+use Rattle.rows.specs.Row.{fieldAt}
+use Rattle.bisection.specs.declared.AxisRule.{AxisRule}
+use Rattle.bisection.specs.declared.Piece.{Piece}
+use Rattle.bisection.specs.declared.Piece.the-variants.{Whole, Halves}
+use Rattle.bisection.specs.declared.Axis.{Axis}
+use Rattle.bisection.specs.Bisection.{distance, order, affordable, longest, shortest, along, with, farthest, tooRough, bisected, near, outside, pieceOf}
 use Rattle.prism.specs.Prism.{join, fieldOr, pieces, maxBisections, prismAt}
 
 pub record FieldFits (g : Newtonian) : Type 0 where

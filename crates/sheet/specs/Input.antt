@@ -1,6 +1,6 @@
 -- What a sheet is made from, and its counts V, F and S. Definitions only.
 use mathlib.Core.List.{List}
-use Prim.Native.Nat.{ℕ, _+_, _*_, _/_}
+use Prim.Native.Nat.{ℕ, _/_}
 use lib.Ieee.{Float}
 use lib.ListN.{length}
 use Rattle.refusals.specs.Answer.{Answer}
@@ -17,6 +17,10 @@ pub record SheetInput : Type 0 where
   pub magnetisation : Vector
   pub ambient : Vector
   pub stations : List Float
+
+-- of a function's arguments
+abbrev pub inputOf : ℕ → List Float → List ℕ → Vector → Vector → List Float → SheetInput
+inputOf kind v f m b st = record { kind = kind; vertices = v; faces = f; magnetisation = m; ambient = b; stations = st }
 
 module _ (s : SheetInput) where
   abbrev pub vertexCount : ℕ

@@ -20,6 +20,7 @@ use Rattle.refusals.specs.declared.Cause.the-variants.{None}
 use Rattle.refusals.proofs.Causes.{both, from-both, passes, from-each}
 use Rattle.lists.specs.Count.{Below}
 use Rattle.lists.proofs.Counts.{below-all}
+use Rattle.newtonian.specs.Vectors.{vectorNumbers}
 use Rattle.newtonian.specs.declared.Vector.{Vector}
 use Rattle.newtonian.specs.declared.Newtonian.{Newtonian}
 use Rattle.newtonian.specs.Fold.{Fold}
@@ -30,8 +31,8 @@ use Rattle.orders.specs.Mates.{mates}
 use Rattle.mesh.specs.Surface as surface
 use Rattle.mesh.specs.Accepted.{Counted, Closed}
 use Rattle.mesh.specs.CauseLaws.{body, degenerate-none, inverted-none}
-use Rattle.mesh.specs.Laws.{pairs-closed}
-use Rattle.prism.specs.Prism.{sidesWithinLimits, sideWithinLimits}
+use Rattle.mesh_laws.specs.Laws.{pairs-closed}
+use Rattle.prism.specs.Prism.{sidesWithinLimits, sideWithinLimits, prismVolume}
 use Rattle.anomaly.specs.Body.{bodyOf}
 use Rattle.anomaly.specs.TotalField.{totalFieldOf}
 use Rattle.layout.specs.LittleEndian.{number, pack, unpack, bits, doubles, IsBytes, IsDoubles}
@@ -39,18 +40,19 @@ use Rattle.layout.specs.Parts.{Part, Run, joined, layout, size, split, EachFits
 use Rattle.layout.proofs.Bits.{bits-lt, doubles-bits}
 use Rattle.layout.proofs.Lists.{unpack-at, pack-unpack}
 use Rattle.layout.proofs.Files.{joined-length, joined-are, split-joined}
-use Rattle.rows.specs.Row.{meshKind, prismKind, isMesh, rowWidth, inRow, fieldAt, rowFrom, rowNumbers}
+use Rattle.rows.specs.Kinds.{meshKind, prismKind, isMesh, rowWidth}
+use Rattle.rows.specs.Row.{inRow, fieldAt, rowFrom, rowNumbers}
 use Rattle.rows.specs.Row as row
 use Rattle.rows.specs.declared.Row.{Row}
 use Rattle.sheet.specs.FieldFits.{FieldFits, fieldAt-fits}
 use Rattle.sheet.specs.Input.{SheetInput, vertexCount, faceCount, stationCount, stationAt, rowAt}
-use Rattle.sheet.specs.Bytes.{trailerLength, pointer, pointerOf, prismVolume, volume, vectorNumbers, sheetLength, numbersOf, rows, parts, sheetBytes}
+use Rattle.sheet.specs.Bytes.{trailerLength, pointer, pointerOf, volume, sheetLength, numbersOf, rows, parts, sheetBytes}
 use Rattle.sheet.specs.Writer.{malformed, tooMany, tooShort, outOfLimits, noSuchVertex, tooThin, stationCause, writerCause}
-use Rattle.sheet.specs.Checker.{trailer, kindIn, verticesIn, facesIn, stationsIn, volumeIn, pointerIn, facesStart, orderStart, matesStart, stationsStart, rowsStart, rowStart, vectorIn, parse, orderIn, matesIn, sameNumbers, wrongOrder, wrongMate, solidCause, wrongVolume, wrongRow, checkStation, checkerCause}
+use Rattle.sheet.specs.Checker.{trailer, kindIn, verticesIn, facesIn, stationsIn, volumeIn, pointerIn, pointerFor, facesStart, orderStart, matesStart, stationsStart, rowsStart, rowStart, vectorIn, parse, orderIn, matesIn, sameNumbers, wrongOrder, wrongMate, solidCause, wrongVolume, wrongRow, checkStation, checkerCause}
 use Rattle.sheet.specs.Promises.{NoCause, Typed, VectorFits, Kept}
 use Rattle.sheet.specs.WriterLaws.{is-mesh, is-prism, station-none, cause-none}
 use Rattle.sheet.specs.OrderAndMates.{order-passes, mates-pass, mates-below, mates-length}
-use Rattle.sheet.specs.Reading.{same-input, plan, pointerFor, placed, plan-split, plan-size, length-none, list-same, RowsHave, rows-length, rows-apart}
+use Rattle.sheet.specs.Reading.{same-input, plan, placed, plan-split, plan-size, length-none, list-same, RowsHave, rows-length, rows-apart}
 use Rattle.sheet.specs.AcceptedLaws.{passes-all}
 
 -- ---- the numbers of a sheet are doubles

@@ -24,7 +24,7 @@ use Rattle.orders.specs.OrderLaws.{order-length, order-below, place, places-apa
 use Rattle.orders.specs.MateLaws.{mate-reverse, reverse-occurs, occurs-mate, mate-only}
 use Rattle.mesh.specs.Accepted.{Closed}
 use Rattle.mesh.specs.CauseLaws.{none-each, each-none}
-use Rattle.mesh.specs.Laws.{pairs-closed}
+use Rattle.mesh_laws.specs.Laws.{pairs-closed}
 use Rattle.sheet.specs.Checker.{ascends, wrongOrder, isReverse, wrongMate}
 
 after-first : (a b : Bool) → (a || b) ≡ true → a ≡ false → b ≡ true

@@ -14,8 +14,7 @@ use Rattle.doubles.specs.Constants.{0·0}
 use Rattle.doubles.specs.Rounded.{_⊖_, _⊗_}
 use Rattle.doubles.proofs.Signs.{true→T}
 use Rattle.newtonian.specs.declared.Vector.{Vector}
-use Rattle.prism.specs.Prism.{minSide}
-use Rattle.sheet.specs.Bytes.{prismVolume}
+use Rattle.prism.specs.Prism.{minSide, prismVolume}
 use Rattle.sheet.specs.Promises.{SideInLimits}
 
 above-lt : (z : Float) → T (above z) → lt 0·0 z ≡ true

@@ -19,10 +19,10 @@ use Rattle.newtonian.specs.declared.Vector.{Vector}
 use Rattle.layout.specs.LittleEndian.{unpack, bits}
 use Rattle.layout.specs.Parts.{Part, Run, size, split}
 use Rattle.layout.proofs.Lists.{unpack-length, unpack-append}
-use Rattle.rows.specs.Row.{rowWidth}
+use Rattle.rows.specs.Kinds.{rowWidth}
 use Rattle.sheet.specs.Input.{SheetInput, vertexCount, faceCount, stationCount, rowAt}
 use Rattle.sheet.specs.Bytes.{trailerLength, pointerOf, pointer, numbersOf, rows}
-use Rattle.sheet.specs.Checker.{kindIn, verticesIn, facesIn, stationsIn, pointerIn, facesStart, orderStart, matesStart, parse, orderIn, matesIn, sameNumbers, wrongLength}
+use Rattle.sheet.specs.Checker.{kindIn, verticesIn, facesIn, stationsIn, pointerIn, pointerFor, facesStart, orderStart, matesStart, parse, orderIn, matesIn, sameNumbers, wrongLength}
 
 -- inputs that agree in each field
 pub same-input : {k k′ : ℕ} {v v′ t t′ : List Float} {f f′ : List ℕ} {m m′ a a′ : Vector} → k ≡ k′ → v ≡ v′ → f ≡ f′ → m ≡ m′ → a ≡ a′ → t ≡ t′
@@ -58,10 +58,6 @@ module _ (kind v f n : ℕ) (b : List ℕ) where
   plan-size = omega arith
 
 -- ---- counts
-
--- the pointer that the trailer's counts give
-abbrev pub pointerFor : List ℕ → ℕ
-pointerFor b = pointerOf (kindIn b) (verticesIn b) (facesIn b) (stationsIn b)
 
 module _ (b : List ℕ) where
   pub kind-read : parse b .kind ≡ kindIn b

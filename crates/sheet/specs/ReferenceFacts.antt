@@ -5,7 +5,7 @@ use mathlib.Core.List.{List, [], _∷_, _++_, map}
 use lib.Ieee.{Float, binary64, ofBits}
 use Rattle.doubles.specs.Constants.{0·0, 1·5, 3·0, 4·0, 5·0}
 use Rattle.roots.specs.Root.{Root}
-use Rattle.mesh.specs.Tetrahedron as tetrahedron
+use Rattle.mesh_laws.specs.Tetrahedron as tetrahedron
 use Rattle.anomaly.specs.TotalField.{totalFieldOf}
 use Rattle.anomaly.specs.WorkedExamples.{total-field-of-3-4-0}
 

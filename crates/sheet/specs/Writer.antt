@@ -1,6 +1,6 @@
 -- What `write_sheet` answers, and what the lent out holds afterwards; work is as `workAfter` of the mesh has it. Each cause of refusal carries its number in document 01,
 -- and is judged from the arguments and the lengths `w` of work and `o` of out. Definitions only.
-use mathlib.Core.Bool.{Bool, _&&_, _||_, cond}
+use mathlib.Core.Bool.{Bool, _&&_, cond}
 use mathlib.Core.List.{List, [], _∷_, _++_}
 use Prim.Native.Nat.{ℕ, _%_}
 use lib.Dec.{eqb, leb}
@@ -12,23 +12,15 @@ use Rattle.refusals.specs.declared.Refusal.the-variants.{Malformed, TooMany, To
 use Rattle.refusals.specs.declared.Cause.{Cause}
 use Rattle.refusals.specs.declared.Cause.the-variants.{None, Refused}
 use Rattle.lists.specs.Count.{count}
-use Rattle.orders.specs.Edges.{maxVertices, maxFaces}
 use Rattle.orders.specs.Order.{orderList}
 use Rattle.newtonian.specs.Vectors.{vectorWithinLimits}
 use Rattle.mesh.specs.Surface.{vertex}
 use Rattle.mesh.specs.Check as mesh
 use Rattle.prism.specs.Prism.{sidesWithinLimits}
-use Rattle.rows.specs.Row.{meshKind, prismKind, isMesh, rowCause}
+use Rattle.rows.specs.Kinds.{isMesh, knownKind, withinCounts}
+use Rattle.rows.specs.Row.{rowCause}
 use Rattle.sheet.specs.Input.{SheetInput, vertexCount, faceCount, stationCount, rowAt}
 use Rattle.sheet.specs.Bytes.{sheetLength, sheetBytes}
-
--- document 01: S ≤ 65,536
-abbrev pub maxStations : ℕ
-maxStations = 65536
-
--- a mesh; or a prism, with two vertices, min and max, and no faces
-unfoldable pub knownKind : ℕ → ℕ → ℕ → Bool
-knownKind kind v f = eqb kind meshKind || (eqb kind prismKind && (eqb v 2 && eqb f 0))
 
 -- "out" is the lent sheet, a term of document 01: after 10, 11 and 13 the sheet's length in it is zeroed, after every other refusal it is as it was
 abbrev pub zeroesOut : Refusal → Bool
@@ -42,7 +34,7 @@ module _ (s : SheetInput) where
 
   -- 2: a count over its limit
   unfoldable pub tooMany : Cause
-  tooMany = unless (leb (vertexCount s) maxVertices && (leb (faceCount s) maxFaces && leb (stationCount s) maxStations)) TooMany
+  tooMany = unless (withinCounts (vertexCount s) (faceCount s) (stationCount s)) TooMany
 
   -- 12: work is shorter than 3F, or out than the sheet
   unfoldable pub tooShort : ℕ → ℕ → Cause

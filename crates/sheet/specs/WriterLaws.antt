@@ -29,13 +29,15 @@ use Rattle.mesh.specs.Check.{orderCause, surfaceCause}
 use Rattle.mesh.specs.Check as mesh
 use Rattle.mesh.specs.Accepted.{Counted}
 use Rattle.mesh.specs.CauseLaws.{body, none-limits, limits-none, none-vertex, vertex-none}
-use Rattle.mesh.specs.Laws.{closed-pairs, pairs-closed, checked, checks}
+use Rattle.mesh_laws.specs.Laws.{closed-pairs, pairs-closed, checked, checks}
 use Rattle.prism.specs.Prism.{sidesWithinLimits, sideWithinLimits}
-use Rattle.rows.specs.Row.{meshKind, prismKind, isMesh, allFinite, isFiniteRow, rowNumbers, rowCause}
+use Rattle.rows.specs.Kinds.{meshKind, prismKind, isMesh, maxStations, knownKind, withinCounts}
+use Rattle.rows.proofs.Counts.{counts-each}
+use Rattle.rows.specs.Row.{allFinite, isFiniteRow, rowNumbers, rowCause}
 use Rattle.rows.specs.declared.Row.{Row}
 use Rattle.sheet.specs.Input.{SheetInput, vertexCount, faceCount, stationCount, rowAt}
 use Rattle.sheet.specs.Bytes.{sheetLength, volume}
-use Rattle.sheet.specs.Writer.{maxStations, knownKind, malformed, tooMany, tooShort, outOfLimits, noSuchVertex, tooThin, bodyCause, stationCause, writerCause}
+use Rattle.sheet.specs.Writer.{malformed, tooMany, tooShort, outOfLimits, noSuchVertex, tooThin, bodyCause, stationCause, writerCause}
 use Rattle.sheet.specs.Promises.{VectorInLimits, AllInLimits, SideInLimits, FiniteRow, NoCause}
 
 -- ---- tests
@@ -128,12 +130,11 @@ module _ (s : SheetInput) where
   pub none-many : tooMany s ≡ None → (vertexCount s ≤ maxVertices) × ((faceCount s ≤ maxFaces) × (stationCount s ≤ maxStations))
   unfolding tooMany
   none-many e =
-      let t = both (leb (vertexCount s) maxVertices) (leb (faceCount s) maxFaces && leb (stationCount s) maxStations) (holds _ TooMany e) in
-      let u = both (leb (faceCount s) maxFaces) (leb (stationCount s) maxStations) (t .1) in
-      (leb-true _ _ (t .0), (leb-true _ _ (u .0), leb-true _ _ (u .1)))
+      let t = counts-each (vertexCount s) (faceCount s) (stationCount s) (holds _ TooMany e) in
+      (t .0, (t .1, t .2))
 
   many-none : vertexCount s ≤ maxVertices → faceCount s ≤ maxFaces → stationCount s ≤ maxStations → tooMany s ≡ None
-  unfolding tooMany
+  unfolding tooMany withinCounts
   many-none p q r = rw (le-leb (vertexCount s) maxVertices p, le-leb (faceCount s) maxFaces q, le-leb (stationCount s) maxStations r)
 
   pub none-short : (w o : ℕ) → tooShort s w o ≡ None → (length (s .faces) ≤ w) × (sheetLength s ≤ o)

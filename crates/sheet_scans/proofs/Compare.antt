@@ -1,54 +1,16 @@
--- The tests of the scans, as the code makes them. Assumes nothing.
+-- A stored row beside a computed one, number by number. Assumes nothing.
 use mathlib.Core.Path.{_≡_, refl, sym, ap, _∙_}
-use mathlib.Core.Bool.{Bool, true, false, _&&_, _||_}
+use mathlib.Core.Bool.{Bool, true, false, _&&_}
 use mathlib.Core.List.{List, [], _∷_}
-use Prim.Native.Nat.{ℕ, zero, suc, _+_, _*_, _-_, _≤_, _<_}
+use Prim.Native.Nat.{ℕ, zero, suc, _+_, _*_, _-_, _<_}
 use native.Mathlib.Nat.{not-suc-le-zero}
 use native.Mathlib.Omega.{arith}
-use lib.Dec.{eqb, ltb}
+use lib.Dec.{eqb}
 use lib.ListN.{length, getD}
 use lib.Ieee.{Float, binary64, nan, toBits}
-use borrow.Author.Tests.{lt-ltb, le-ltb, eq-eqb, ne-eqb}
-use Rattle.orders.specs.Edges.{edge, reverse}
+use borrow.Author.Tests.{eq-eqb, ne-eqb}
 use Rattle.layout.specs.LittleEndian.{number, unpack, bits}
-use Rattle.sheet.specs.Checker.{ascends, isReverse, sameNumbers}
-
--- ---- 17
-
-module _ (f o : List ℕ) (i : ℕ) where
-  -- the last edge, if there is one
-  abbrev pub Last : ℕ → Type 0
-  Last last = 0 < i → last ≡ edge f (getD o (i - 1) 0)
-
-  pub no-use : length f ≤ getD o i 0 → ascends f o i ≡ false
-  no-use h = rw (le-ltb (getD o i 0) (length f) h)
-
-  abbrev pub AboveLast : Bool
-  AboveLast = eqb i 0 || ltb (edge f (getD o (i - 1) 0)) (edge f (getD o i 0))
-
-  pub a-use : {t : Bool} → getD o i 0 < length f → AboveLast ≡ t → ascends f o i ≡ t
-  a-use h e = rw (lt-ltb (getD o i 0) (length f) h) e
-
-pub above : (f o : List ℕ) (i last e : ℕ) → Last f o i last → e ≡ edge f (getD o i 0) → (eqb i 0 || ltb last e) ≡ AboveLast f o i
-above f o zero last e w q = refl
-above f o (suc i) last e w q = rw (w (omega arith), q)
-
-pub next-last : (f o : List ℕ) (i e : ℕ) → e ≡ edge f (getD o i 0) → Last f o (i + 1) e
-next-last f o i e q l = let k : i + 1 - 1 ≡ i = omega arith in q ∙ ap (λ (j : ℕ). edge f (getD o j 0)) (sym k)
-
--- ---- 18: w is the mate
-
-module _ (f m : List ℕ) (i w : ℕ) (e : getD m i 0 ≡ w) where
-  pub no-mate : length f ≤ w → isReverse f m i ≡ false
-  no-mate h = rw (e, le-ltb w (length f) h)
-
-  pub not-reverse : w < length f → (edge f w ≡ reverse f i → ⊥) → isReverse f m i ≡ false
-  not-reverse h n = rw (e, lt-ltb w (length f) h, ne-eqb (edge f w) (reverse f i) n)
-
-  pub is-reverse : w < length f → edge f w ≡ reverse f i → isReverse f m i ≡ true
-  is-reverse h q = rw (e, lt-ltb w (length f) h, eq-eqb (edge f w) (reverse f i) q)
-
--- ---- 20
+use Rattle.sheet.specs.Checker.{sameNumbers}
 
 module _ (b : List ℕ) where
   -- the number at place i has the bits of xs's at i

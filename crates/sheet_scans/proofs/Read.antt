@@ -18,10 +18,7 @@ doubles-get (n ∷ ns) zero h = refl
 doubles-get (n ∷ ns) (suc i) h = doubles-get ns i (omega arith)
 
 module _ (b : List ℕ) (at n : ℕ) where
-  -- one number of a run, and one double
-  pub number-at : (i : ℕ) → i < n → getD (unpack 4 n b at) i 0 ≡ number 4 b (at + 4 * i)
-  number-at i h = let e : at + i * 4 ≡ at + 4 * i = omega arith in unpack-at 4 n b at i h ∙ ap (number 4 b) e
-
+  -- one double of a run
   pub double-at : (i : ℕ) → i < n → getD (doubles (unpack 8 n b at)) i nan ≡ ofBits binary64 (number 8 b (at + 8 * i))
   double-at i h =
       let e : at + i * 8 ≡ at + 8 * i = omega arith in

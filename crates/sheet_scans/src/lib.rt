@@ -1,76 +1,20 @@
-// The checker's scans of a sheet: the order list, the mates, the stations' coordinates, and a stored row beside a computed one.
+// The checker's scans of a sheet's doubles: the stations' coordinates, the vectors, and a stored row beside a computed one.
 ghost use mathlib.Core.Path.{_≡_};
-ghost use mathlib.Core.Bool.{_||_};
-ghost use Prim.Native.Nat.{_+_, _*_, _%_, _≤_};
-ghost use lib.Dec.{eqb, ltb};
+ghost use Prim.Native.Nat.{_+_, _*_, _≤_};
 ghost use lib.ListN.{length};
-ghost use Rattle.orders.specs.Edges.{maxFaces};
 ghost use Rattle.mesh.specs.Check.{outOfLimits};
 ghost use Rattle.layout.specs.LittleEndian.{unpack, bits, doubles};
-ghost use Rattle.rows.specs.Row.{rowWidth, rowNumbers};
-ghost use Rattle.sheet.specs.Checker.{wrongOrder, wrongMate, vectorIn, sameNumbers};
+ghost use Rattle.rows.specs.Kinds.{rowWidth};
+ghost use Rattle.rows.specs.Row.{rowNumbers};
+ghost use Rattle.sheet.specs.Checker.{vectorIn, sameNumbers};
 use doubles::to_bits;
 use doubles::within_limits;
 use layout::f64_at;
-use layout::u32_at;
 use layout::u64_at;
 use newtonian::Vector;
-use orders::edges::edge;
-use orders::edges::reverse;
 use refusals::Cause;
 use refusals::Refusal;
 use rows::Row;
-
-// Whether edge e, at place i of the order list, is above the last one, if there is one.
-fn is_above(i: usize, last: u64, e: u64) -> bool
-    ensures { λ r. ⌜ r ≡ (eqb i 0 || ltb last e) ⌝ }
-{
-    if i == 0 {
-        return true;
-    }
-    last < e
-}
-
-// Cause 17: an entry of the order list that is no edge use, or edges that do not ascend strictly.
-pub fn wrong_order(faces: &[u32], order: &[u32]) -> Cause
-    requires { ⌜ (length (now faces) % 3 ≡ 0) × (length (now order) ≡ length (now faces)) ⌝ }
-    ensures { λ r. ⌜ r ≡ wrongOrder (now (faces .entry)) (now (order .entry)) ⌝ }
-{
-    let mut i = 0;
-    let mut last = 0;
-    while i < order.len() {
-        let u = order[i];
-        if faces.len() <= u as usize {
-            return Cause::Refused(Refusal::WrongOrder);
-        }
-        let e = edge(faces, u);
-        if !is_above(i, last, e) {
-            return Cause::Refused(Refusal::WrongOrder);
-        }
-        last = e;
-        i += 1;
-    }
-    Cause::None
-}
-
-// Cause 18: a mate, of those from place at on, that is no edge use, or not the reverse.
-pub fn wrong_mate(faces: &[u32], sheet: &[u8], at: usize) -> Cause
-    requires { ⌜ (length (now faces) % 3 ≡ 0) × (length (now faces) ≤ 3 * maxFaces) × (at + 4 * length (now faces) ≤ length (now sheet)) ⌝ }
-    ensures { λ r. ⌜ r ≡ wrongMate (now (faces .entry)) (unpack 4 (length (now (faces .entry))) (now (sheet .entry)) at) ⌝ }
-{
-    let mut i = 0;
-    while i < faces.len() {
-        let w = u32_at(sheet, at + 4 * i);
-        if faces.len() <= w as usize {
-            return Cause::Refused(Refusal::WrongMate);
-        }
-        if edge(faces, w) != reverse(faces, i as u32) {
-            return Cause::Refused(Refusal::WrongMate);
-        }
-        i += 1;
-    }
-    Cause::None
-}
 
 // Cause 3 of the n doubles from place at on.
 pub fn out_of_limits_at(sheet: &[u8], at: usize, n: usize) -> Cause

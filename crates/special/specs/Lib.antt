@@ -1,9 +1,2 @@
--- Carlson's R_F, R_D and R_J.
-pub mod Constants
-pub mod Duplication
-pub mod Rf
-pub mod Rd
-pub mod Rj
+-- The public calls of Carlson's R_F, R_D and R_J.
 pub mod Domain
-pub mod AbovePole
-pub mod InnerRj

@@ -11,12 +11,12 @@ use Rattle.doubles.specs.Rounded.{_⊕_, _⊗_}
 use Rattle.doubles.specs.Constants.{0·5, 1·0}
 use Rattle.legendre.specs.GaussLegendre.{node, weight}
 use Rattle.newtonian.specs.Fold.{Fold}
-use Rattle.newtonian.specs.Vectors.{difference, dot, cross, zeroField}
+use Rattle.newtonian.specs.Vectors.{difference, dot, cross, zeroField, fieldNumbers}
 use Rattle.newtonian.specs.declared.Vector.{Vector}
 use Rattle.newtonian.specs.declared.Newtonian.{Newtonian}
 use Rattle.cubature.specs.Cubature.{addPoint}
 use Rattle.mesh.specs.Surface.{faceCount, corner}
-use Rattle.neumaier.specs.Neumaier.{numbersOf, noSums, addTerms, totals}
+use Rattle.neumaier.specs.Neumaier.{noSums, addTerms, totals}
 use Rattle.neumaier.specs.declared.Pair.{Pair}
 use Rattle.tetrahedra.specs.declared.MappedRule.{MappedRule}
 use Rattle.tetrahedra.specs.declared.Tetrahedron.{Tetrahedron}
@@ -89,7 +89,7 @@ tetrahedronField p a s = Fold points (layer p a s) zeroField
 
 -- the sums with the tetrahedron over face k
 unfoldable pub addFace : Vector → Vector → List Float → List ℕ → ℕ → List Pair → List Pair
-addFace p a v f k sums = addTerms sums (numbersOf (tetrahedronField p a (overFace a (corner v f k 0) (corner v f k 1) (corner v f k 2))))
+addFace p a v f k sums = addTerms sums (fieldNumbers (tetrahedronField p a (overFace a (corner v f k 0) (corner v f k 1) (corner v f k 2))))
 
 unfoldable pub tetrahedra : Vector → Vector → List Float → List ℕ → Newtonian
 tetrahedra p a v f = totals (Fold (faceCount f) (addFace p a v f) noSums)

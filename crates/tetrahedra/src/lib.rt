@@ -1,7 +1,7 @@
 // The far field of a polyhedron: a cubature of 1/r over the signed tetrahedra from an apex to each face. What does not
 // turn on the station (the mapped rule, a face's tetrahedron, Duffy's map) stands in functions of its own.
-use neumaier::FIELD_NUMBERS;
 use neumaier::Pair;
+use newtonian::FIELD_SIZE;
 use newtonian::Newtonian;
 use newtonian::Vector;
 use newtonian::cross;
@@ -171,8 +171,8 @@ fn add_face(
     nodes: &[f64; POINTS],
     weights: &[f64; POINTS],
     k: usize,
-    sums: [Pair; FIELD_NUMBERS],
-) -> [Pair; FIELD_NUMBERS]
+    sums: [Pair; FIELD_SIZE],
+) -> [Pair; FIELD_SIZE]
     requires { ⌜ Body (now verts) (now faces) × (k < faceCount (now faces)) ⌝ }
     requires { ⌜ (now nodes ≡ mappedRule .nodes) × (now weights ≡ mappedRule .weights) ⌝ }
     ensures { λ r. ⌜ r ≡ addFace p a (now (verts .entry)) (now (faces .entry)) k sums ⌝ }
@@ -181,7 +181,7 @@ fn add_face(
     let c = mesh::surface::corner(verts, faces, k, 1);
     let d = mesh::surface::corner(verts, faces, k, 2);
     let f = tetrahedron_field(p, a, over_face(a, b, c, d), nodes, weights);
-    neumaier::add_terms(sums, neumaier::numbers_of(f))
+    neumaier::add_terms(sums, newtonian::field_numbers(f))
 }
 
 // The sums over all faces.
@@ -192,7 +192,7 @@ fn face_sums(
     faces: &[u32],
     nodes: &[f64; POINTS],
     weights: &[f64; POINTS],
-) -> [Pair; FIELD_NUMBERS]
+) -> [Pair; FIELD_SIZE]
     requires { ⌜ Body (now verts) (now faces) ⌝ }
     requires { ⌜ (now nodes ≡ mappedRule .nodes) × (now weights ≡ mappedRule .weights) ⌝ }
     ensures { λ r. ⌜ r ≡ Fold (faceCount (now (faces .entry))) (addFace p a (now (verts .entry)) (now (faces .entry))) noSums ⌝ }

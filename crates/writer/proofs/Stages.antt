@@ -1,10 +1,11 @@
 -- The writer's causes in the steps of the code, and what they leave of work and out. Assumes nothing.
-use mathlib.Core.Path.{_≡_, refl, sym, ap, _∙_, subst}
+use mathlib.Core.Path.{_≡_, refl, sym, ap, ap₂, _∙_, subst}
 use mathlib.Core.Bool.{Bool, true, false, _&&_, cond}
-use mathlib.Core.List.{List, [], _∷_, _++_}
+use mathlib.Core.List.{List, _++_}
 use Prim.Native.Nat.{ℕ, _≤_}
 use native.Mathlib.Omega.{arith}
 use lib.Dec.{leb}
+use lib.Ieee.{Float}
 use lib.ListN.{length, take, drop, replicate}
 use lib.Seq.{take-at}
 use Rattle.refusals.specs.Causes.{orElse, unless, firstOf}
@@ -13,114 +14,64 @@ use Rattle.refusals.specs.declared.Refusal.the-variants.{Malformed, TooMany, To
 use Rattle.refusals.specs.declared.Cause.{Cause}
 use Rattle.refusals.specs.declared.Cause.the-variants.{None, Refused}
 use Rattle.refusals.proofs.Causes.{both}
+use Rattle.orders.specs.Edges.{maxVertices, maxFaces}
 use Rattle.orders.specs.Order.{orderList}
 use Rattle.orders.specs.OrderLaws.{order-length}
 use Rattle.newtonian.specs.Vectors.{vectorWithinLimits}
-use Rattle.mesh.specs.Surface as surface
-use Rattle.mesh.specs.Check.{orderCause, surfaceCause, meshOf, leavesWork, workAfter}
+use Rattle.mesh.specs.Surface.{vertex}
+use Rattle.mesh.specs.Check.{orderCause, leavesWork, workAfter}
 use Rattle.mesh.specs.Check as mesh
 use Rattle.mesh.specs.Accepted.{Counted}
+use Rattle.mesh_laws.specs.Laws.{mesh-volume, mesh-refused}
+use Rattle.mesh.specs.declared.Mesh.{Mesh}
 use Rattle.prism.specs.Prism.{sidesWithinLimits}
-use Rattle.rows.specs.Row.{isMesh}
-use Rattle.sheet.specs.Input.{SheetInput, stationCount}
-use Rattle.sheet.specs.Bytes.{prismVolume, volume, sheetLength, sheetBytes}
+use Rattle.rows.specs.Kinds.{isMesh, maxStations, withinCounts}
+use Rattle.sheet.specs.Input.{SheetInput, vertexCount, faceCount, stationCount}
+use Rattle.sheet.specs.Bytes.{volume, sheetLength, sheetBytes}
 use Rattle.sheet.specs.Writer.{malformed, tooMany, tooShort, outOfLimits, noSuchVertex, tooThin, bodyCause, stationCause, writerCause, zeroesOut, outAfter}
 use Rattle.sheet.specs.Promises.{Typed, Kept}
-use Rattle.sheet.specs.WriterLaws.{none-short, surface-cause, prism-cause, no-cause, cause-none}
-use Rattle.sheet.specs.WriterLaws as laws
+use Rattle.sheet.specs.WriterLaws.{none-malformed, none-many, none-short, not-mesh, body-of, no-cause, cause-none}
 use Rattle.sheet.specs.Demand3.{kept, sheet-length}
-use Rattle.put_sheet.specs.Put.{sheetOrZeros}
+use Rattle.input_causes.specs.CountCause.{wellFormed, countCause}
+use Rattle.body_causes.specs.BodyChecked.{checkBodyCause, BodyChecked}
+use Rattle.put_sheet.specs.Put.{sheetOrZeros, SheetPut, Prepared}
 use Rattle.writer.specs.declared.Written.{Written}
 use Rattle.writer.specs.declared.Written.the-variants.{Bytes}
 use Rattle.writer.specs.declared.Written as written
 use Rattle.writer.specs.Written.{writtenOf, Writes}
-use Rattle.input_causes.specs.CountCause.{countCause}
-use Rattle.writer.specs.Steps.{checkBodyCause, lateCause, Leaves}
-use Rattle.input_causes.proofs.Counts.{isWellFormed, isFew}
-use Rattle.writer.proofs.Refusals.{Of, Early, LeavesOut, Late, of-else, of-unless, of-limits, of-vertex, of-order}
+use Rattle.writer.specs.Steps.{lateCause, Leaves}
+use Rattle.writer.proofs.Refusals.{Of, Early, LeavesOut, Late, of-refused, of-else, of-unless, of-limits, of-vertex, of-order, of-stations}
 
--- ---- the body
+-- ---- what the refusals leave
 
 module _ (s : SheetInput) where
-  pub mesh-answer : isMesh (s .kind) ≡ true → meshOf (surfaceCause (s .vertices) (s .faces)) (surface.volume (s .vertices) (s .faces)) ≡ meshOf (checkBodyCause s) (volume s)
-  unfolding volume
-  mesh-answer e = rw e (ap (λ (c : Cause). meshOf c (surface.volume (s .vertices) (s .faces))) (sym (surface-cause s e)))
-
-  module _ (e : isMesh (s .kind) ≡ false) (n : length (s .faces) ≡ 0) where
-    pub prism-answer : (b : Bool) → sidesWithinLimits (surface.vertex (s .vertices) 0) (surface.vertex (s .vertices) 1) ≡ b
-        → meshOf (unless b TooThin) (prismVolume (surface.vertex (s .vertices) 0) (surface.vertex (s .vertices) 1)) ≡ meshOf (checkBodyCause s) (volume s)
-    unfolding volume tooThin
-    prism-answer b h =
-        let lo = surface.vertex (s .vertices) 0 in
-        let hi = surface.vertex (s .vertices) 1 in
-        rw e (ap (λ (c : Cause). meshOf c (prismVolume lo hi)) (ap (λ (t : Bool). unless t TooThin) (sym h) ∙ sym (prism-cause s e n)))
-
-  -- without faces there is no order list
-  no-order : (f w : List ℕ) → length f ≡ 0 → orderList f ++ drop (length f) w ≡ w
-  unfolding orderList
-  no-order [] w e = refl
-  no-order (x ∷ f) w e = absurd (omega arith)
-
-  thin-work : (b : Bool) (f w : List ℕ) → length f ≡ 0 → w ≡ workAfter (unless b TooThin) f w
-  unfolding workAfter leavesWork
-  thin-work true f w n = sym (no-order f w n)
-  thin-work false f w n = refl
-
-  pub prism-work : isMesh (s .kind) ≡ false → length (s .faces) ≡ 0 → (w : List ℕ) → w ≡ workAfter (checkBodyCause s) (s .faces) w
-  unfolding tooThin
-  prism-work e n w =
-      thin-work (sidesWithinLimits (surface.vertex (s .vertices) 0) (surface.vertex (s .vertices) 1)) (s .faces) w n ∙ ap (λ (c : Cause). workAfter c (s .faces) w) (sym (prism-cause s e n))
-
-  -- ---- what 1, 2 and 12 leave
-
-  module _ (w o : ℕ) (e : countCause s w o ≡ None) where
-    pub well-formed : malformed s ≡ None
-    well-formed = both (malformed s) (orElse (tooMany s) (tooShort s w o)) e .0
-
-    rest : (tooMany s ≡ None) × (tooShort s w o ≡ None)
-    rest = both (tooMany s) (tooShort s w o) (both (malformed s) (orElse (tooMany s) (tooShort s w o)) e .1)
-
-    pub few : tooMany s ≡ None
-    few = rest .0
-
-    pub room : (length (s .faces) ≤ w) × (sheetLength s ≤ o)
-    room = none-short s w o (rest .1)
-
-    pub counted : Counted (s .vertices) (s .faces) w
-    counted =
-        let c = laws.counted s well-formed few in
-        record { coordinates = c .coordinates; corners = c .corners; vertices = c .vertices; faces = c .faces; room = room .0 }
-
-  -- ---- refusals
-
   thin-out : Of LeavesOut (tooThin s)
   unfolding tooThin
-  thin-out = of-unless LeavesOut (sidesWithinLimits (surface.vertex (s .vertices) 0) (surface.vertex (s .vertices) 1)) TooThin refl
+  thin-out = of-unless LeavesOut (sidesWithinLimits (vertex (s .vertices) 0) (vertex (s .vertices) 1)) TooThin refl
 
   body-out : (b : Bool) → Of LeavesOut (cond b (orderCause (s .vertices) (s .faces) (orderList (s .faces))) (tooThin s))
   body-out true = of-order (s .vertices) (s .faces) (orderList (s .faces))
   body-out false = thin-out
 
-  pub solid-out : Of LeavesOut (checkBodyCause s)
+  solid-out : Of LeavesOut (checkBodyCause s)
   unfolding noSuchVertex bodyCause
-  solid-out = of-else LeavesOut (noSuchVertex s) (bodyCause s) (of-vertex (surface.vertexCount (s .vertices)) (s .faces)) (body-out (isMesh (s .kind)))
+  solid-out = of-else LeavesOut (noSuchVertex s) (bodyCause s) (of-vertex (vertexCount s) (s .faces)) (body-out (isMesh (s .kind)))
 
   pub count-early : (w o : ℕ) → Of Early (countCause s w o)
   unfolding malformed tooMany tooShort leavesWork
   count-early w o =
-      of-else Early (malformed s) (orElse (tooMany s) (tooShort s w o)) (of-unless Early (isWellFormed s) Malformed (refl, refl))
-      (of-else Early (tooMany s) (tooShort s w o) (of-unless Early (isFew (surface.vertexCount (s .vertices)) (surface.faceCount (s .faces)) (stationCount s)) TooMany (refl, refl)) (of-unless Early (leb (length (s .faces)) w && leb (sheetLength s) o) TooShort (refl, refl)))
+      of-else Early (malformed s) (orElse (tooMany s) (tooShort s w o)) (of-unless Early (wellFormed (s .kind) (length (s .vertices)) (length (s .faces)) (length (s .stations))) Malformed (refl, refl))
+      (of-else Early (tooMany s) (tooShort s w o) (of-unless Early (withinCounts (vertexCount s) (faceCount s) (stationCount s)) TooMany (refl, refl)) (of-unless Early (leb (length (s .faces)) w && leb (sheetLength s) o) TooShort (refl, refl)))
 
   pub limits-early : Of Early (outOfLimits s)
   unfolding outOfLimits leavesWork
   limits-early =
-      of-else Early (mesh.outOfLimits (s .vertices)) (orElse (unless (vectorWithinLimits (s .magnetisation) && vectorWithinLimits (s .ambient)) OutOfLimits) (mesh.outOfLimits (s .stations)))
-      (of-limits (s .vertices))
-      (of-else Early (unless (vectorWithinLimits (s .magnetisation) && vectorWithinLimits (s .ambient)) OutOfLimits) (mesh.outOfLimits (s .stations))
-      (of-unless Early (vectorWithinLimits (s .magnetisation) && vectorWithinLimits (s .ambient)) OutOfLimits (refl, refl)) (of-limits (s .stations)))
+      let fields = vectorWithinLimits (s .magnetisation) && vectorWithinLimits (s .ambient) in
+      of-else Early (mesh.outOfLimits (s .vertices)) (orElse (unless fields OutOfLimits) (mesh.outOfLimits (s .stations))) (of-limits (s .vertices))
+      (of-else Early (unless fields OutOfLimits) (mesh.outOfLimits (s .stations)) (of-unless Early fields OutOfLimits (refl, refl)) (of-limits (s .stations)))
 
   -- out is as it was
-  pub out-left : (r : Refusal) (o : List ℕ) → zeroesOut r ≡ false → outAfter s (Refused r) o ≡ o
+  out-left : (r : Refusal) (o : List ℕ) → zeroesOut r ≡ false → outAfter s (Refused r) o ≡ o
   unfolding outAfter
   out-left r o e = ap (λ (b : Bool). cond b (replicate (sheetLength s) 0 ++ drop (sheetLength s) o) o) e
 
@@ -134,22 +85,96 @@ module _ (s : SheetInput) where
   }
 
   -- the sheet or zeros stand in front of out, and work holds the order list
-  pub late-out : (c : Cause) → Of Late c → (o : List ℕ) → sheetOrZeros s c ++ drop (sheetLength s) o ≡ outAfter s c o
+  late-out : (c : Cause) → Of Late c → (o : List ℕ) → sheetOrZeros s c ++ drop (sheetLength s) o ≡ outAfter s c o
   unfolding sheetOrZeros outAfter
   late-out None h o = refl
   late-out (Refused r) h o = sym (ap (λ (b : Bool). cond b (replicate (sheetLength s) 0 ++ drop (sheetLength s) o) o) (h .1))
 
-  pub late-work : (c : Cause) → Of Late c → (w : List ℕ) → workAfter None (s .faces) w ≡ workAfter c (s .faces) w
+  late-work : (c : Cause) → Of Late c → (w : List ℕ) → workAfter None (s .faces) w ≡ workAfter c (s .faces) w
   unfolding workAfter
   late-work None h w = refl
   late-work (Refused r) h w = sym (ap (λ (b : Bool). cond b w (orderList (s .faces) ++ drop (length (s .faces)) w)) (h .0))
 
-  pub order-front : (w : List ℕ) → take (length (s .faces)) (workAfter None (s .faces) w) ≡ orderList (s .faces)
+  order-front : (w : List ℕ) → take (length (s .faces)) (workAfter None (s .faces) w) ≡ orderList (s .faces)
   unfolding workAfter
   order-front w = take-at (orderList (s .faces)) (drop (length (s .faces)) w) (length (s .faces)) (order-length (s .faces))
 
+-- ---- a sheet whose counts are within the limits
+
+module _ (s : SheetInput) (w o : List ℕ) (ok : countCause s (length w) (length o) ≡ None) where
+  well-formed : malformed s ≡ None
+  well-formed = both (malformed s) (orElse (tooMany s) (tooShort s (length w) (length o))) ok .0
+
+  rest : (tooMany s ≡ None) × (tooShort s (length w) (length o) ≡ None)
+  rest = both (tooMany s) (tooShort s (length w) (length o)) (both (malformed s) (orElse (tooMany s) (tooShort s (length w) (length o))) ok .1)
+
+  pub room : (length (s .faces) ≤ length w) × (sheetLength s ≤ length o)
+  room = none-short s (length w) (length o) (rest .1)
+
+  pub few : (vertexCount s ≤ maxVertices) × (faceCount s ≤ maxFaces) × (stationCount s ≤ maxStations)
+  few = let n = none-many s (rest .0) in (n .0, n .1 .0, n .1 .1)
+
+  -- what `check_body` asks
+  pub counted : Counted (s .vertices) (s .faces) (length w) × (isMesh (s .kind) ≡ false → (length (s .vertices) ≡ 6) × (length (s .faces) ≡ 0))
+  counted =
+      let m = none-malformed s well-formed in
+      (record { coordinates = m .0; corners = m .1 .0; vertices = few .0; faces = few .1; room = room .0 }, λ z. not-mesh s well-formed z .1)
+
+  module _ {r : Mesh} {p : List ℕ} (h : BodyChecked s w r p) where
+    -- the body is refused
+    pub body-refused : (q : Refusal) → r ≡ Mesh.Refused q → Leaves s (lateCause s) w o (written.the-variants.Refused q) p o
+    body-refused q e =
+        let f = mesh-refused (checkBodyCause s) (volume s) q (sym (h .answer) ∙ e) in
+        let g = ap (λ (d : Cause). orElse d (firstOf (stationCount s) (stationCause s))) f in
+        record {
+          answer = sym (ap (λ (d : Cause). writtenOf d (sheetLength s)) g);
+          work = h .work ∙ ap (λ (d : Cause). workAfter d (s .faces) w) (f ∙ sym g);
+          out = sym (ap (λ (d : Cause). outAfter s d o) g ∙ out-left s q o (of-refused LeavesOut (checkBodyCause s) q (solid-out s) f));
+        }
+
+    -- it is not
+    module _ (x : Float) (e : r ≡ Mesh.Volume x) where
+      solid : (checkBodyCause s ≡ None) × (x ≡ volume s)
+      solid = mesh-volume (checkBodyCause s) (volume s) x (sym (h .answer) ∙ e)
+
+      held : p ≡ workAfter None (s .faces) w
+      held = h .work ∙ ap (λ (d : Cause). workAfter d (s .faces) w) (solid .0)
+
+      order : take (length (s .faces)) p ≡ orderList (s .faces)
+      order = ap (take (length (s .faces))) held ∙ order-front s w
+
+      pub order-size : length (take (length (s .faces)) p) ≡ length (s .faces)
+      order-size = ap length order ∙ order-length (s .faces)
+
+      pub prepared : (n : ℕ) → n ≡ sheetLength s → Prepared s (take (length (s .faces)) p) x n
+      prepared n z =
+          let m = none-malformed s well-formed in
+          let body = body-of s well-formed (rest .0) (both (noSuchVertex s) (bodyCause s) (solid .0) .0) in
+          record {
+            coordinates = m .0;
+            triples = m .1 .1 .0;
+            vertices = few .0;
+            stations = few .2;
+            faces = body .faces;
+            body = λ y. body;
+            corners = λ y. omega (arith, not-mesh s well-formed y .1 .0);
+            order = order;
+            measured = solid .1;
+            room = z;
+          }
+
+      pub put : (c : Cause) (n : ℕ) {a : Written} {q : List ℕ} → n ≡ sheetLength s → SheetPut s c q → a ≡ writtenOf c n → Leaves s (lateCause s) w o a p (q ++ drop n o)
+      put c n z g a =
+          let stations = firstOf (stationCount s) (stationCause s) in
+          let f : lateCause s ≡ stations = ap (λ (d : Cause). orElse d stations) (solid .0) in
+          record {
+            answer = a ∙ ap₂ writtenOf (g .cause ∙ sym f) z;
+            work = held ∙ late-work s stations (of-stations s) w ∙ ap (λ (d : Cause). workAfter d (s .faces) w) (sym f);
+            out = ap₂ (λ (y : List ℕ) (k : ℕ). y ++ drop k o) (g .bytes ∙ ap (sheetOrZeros s) (g .cause)) z ∙ late-out s stations (of-stations s) o ∙ ap (λ (d : Cause). outAfter s d o) (sym f);
+          }
+
 -- a cause is an equal one
-pub leaves-same : {s : SheetInput} {c d : Cause} {w o p q : List ℕ} {r : Written} → d ≡ c → Leaves s c w o r p q → Leaves s d w o r p q
+leaves-same : {s : SheetInput} {c d : Cause} {w o p q : List ℕ} {r : Written} → d ≡ c → Leaves s c w o r p q → Leaves s d w o r p q
 leaves-same {s} {w = w} {o = o} {p = p} {q = q} {r = r} e h = subst (λ (x : Cause). Leaves s x w o r p q) (sym e) h
 
 -- ---- all causes
@@ -167,16 +192,6 @@ module _ (s : SheetInput) (w o : ℕ) where
       sym (assoc (malformed s) (orElse (tooMany s) (tooShort s w o)) (orElse (outOfLimits s) (lateCause s))
       ∙ ap (orElse (malformed s)) (assoc (tooMany s) (tooShort s w o) (orElse (outOfLimits s) (lateCause s)))
       ∙ ap (λ (c : Cause). orElse (malformed s) (orElse (tooMany s) (orElse (tooShort s w o) (orElse (outOfLimits s) c)))) (assoc (noSuchVertex s) (bodyCause s) stations))
-
-  pub by-counts : (r : Refusal) → countCause s w o ≡ Refused r → writerCause s w o ≡ Refused r
-  by-counts r e = in-steps ∙ ap (λ (c : Cause). orElse c (orElse (outOfLimits s) (lateCause s))) e
-
-  pub by-limits : (r : Refusal) → countCause s w o ≡ None → outOfLimits s ≡ Refused r → writerCause s w o ≡ Refused r
-  by-limits r p e =
-      in-steps ∙ ap (λ (c : Cause). orElse c (orElse (outOfLimits s) (lateCause s))) p ∙ ap (λ (c : Cause). orElse c (lateCause s)) e
-
-  pub later : countCause s w o ≡ None → outOfLimits s ≡ None → writerCause s w o ≡ lateCause s
-  later p e = in-steps ∙ ap (λ (c : Cause). orElse c (orElse (outOfLimits s) (lateCause s))) p ∙ ap (λ (c : Cause). orElse c (lateCause s)) e
 
 -- ---- demand 3
 
@@ -197,7 +212,7 @@ module _ (s : SheetInput) (ty : Typed s) (w o : List ℕ) {r : Written} {p q : L
       (kept s (length w) (length o) ty z)
 
   -- what the equations promise of a written sheet
-  pub writes : Writes s w o r p q
+  writes : Writes s w o r p q
   writes = record {
     answer = h .answer;
     work = h .work;
@@ -206,3 +221,24 @@ module _ (s : SheetInput) (ty : Typed s) (w o : List ℕ) {r : Written} {p q : L
     only = λ n e. no-cause s (length w) (length o) (none n e);
     always = λ k. h .answer ∙ ap (λ (c : Cause). writtenOf c (sheetLength s)) (cause-none s (length w) (length o) k);
   }
+
+-- ---- the returns of `write_sheet`
+
+module _ (s : SheetInput) (ty : Typed s) (w o : List ℕ) where
+  counts-first : (c : Cause) → countCause s (length w) (length o) ≡ c → writerCause s (length w) (length o) ≡ orElse c (orElse (outOfLimits s) (lateCause s))
+  counts-first c p = in-steps s (length w) (length o) ∙ ap (λ (d : Cause). orElse d (orElse (outOfLimits s) (lateCause s))) p
+
+  then-limits : (c : Cause) → countCause s (length w) (length o) ≡ None → outOfLimits s ≡ c → writerCause s (length w) (length o) ≡ orElse c (lateCause s)
+  then-limits c p e = counts-first None p ∙ ap (λ (d : Cause). orElse d (lateCause s)) e
+
+  pub by-counts : (r : Refusal) → countCause s (length w) (length o) ≡ Refused r → Writes s w o (written.the-variants.Refused r) w o
+  by-counts r e =
+      writes s ty w o
+      (untouched s (writerCause s (length w) (length o)) r w o (counts-first (Refused r) e) (of-refused Early (countCause s (length w) (length o)) r (count-early s (length w) (length o)) e))
+
+  pub by-limits : (r : Refusal) → countCause s (length w) (length o) ≡ None → outOfLimits s ≡ Refused r → Writes s w o (written.the-variants.Refused r) w o
+  by-limits r p e =
+      writes s ty w o (untouched s (writerCause s (length w) (length o)) r w o (then-limits (Refused r) p e) (of-refused Early (outOfLimits s) r (limits-early s) e))
+
+  pub later : {r : Written} {p q : List ℕ} → countCause s (length w) (length o) ≡ None → outOfLimits s ≡ None → Leaves s (lateCause s) w o r p q → Writes s w o r p q
+  later n e h = writes s ty w o (leaves-same (then-limits None n e) h)

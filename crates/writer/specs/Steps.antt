@@ -7,18 +7,14 @@ use Rattle.refusals.specs.declared.Cause.{Cause}
 use Rattle.mesh.specs.Check.{workAfter}
 use Rattle.sheet.specs.Input.{SheetInput, stationCount}
 use Rattle.sheet.specs.Bytes.{sheetLength}
-use Rattle.sheet.specs.Writer.{noSuchVertex, bodyCause, stationCause, outAfter}
+use Rattle.sheet.specs.Writer.{stationCause, outAfter}
+use Rattle.body_causes.specs.BodyChecked.{checkBodyCause}
 use Rattle.writer.specs.declared.Written.{Written}
 use Rattle.writer.specs.Written.{writtenOf}
 
-module _ (s : SheetInput) where
-  -- 4, then 5, 6, 7 and 8 of a mesh, or 9 of a prism
-  abbrev pub checkBodyCause : Cause
-  checkBodyCause = orElse (noSuchVertex s) (bodyCause s)
-
-  -- these, and by station 10 or 11, 13
-  abbrev pub lateCause : Cause
-  lateCause = orElse checkBodyCause (firstOf (stationCount s) (stationCause s))
+-- the body's causes, and by station 10 or 11, 13
+abbrev pub lateCause : SheetInput → Cause
+lateCause s = orElse (checkBodyCause s) (firstOf (stationCount s) (stationCause s))
 
 -- the equations of `Writes`, for the first cause c that was found
 pub record Leaves (s : SheetInput) (c : Cause) (w o : List ℕ) (r : Written) (p q : List ℕ) : Type 0 where

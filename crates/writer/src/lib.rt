@@ -1,19 +1,12 @@
 // The sheet writer.
 ghost use mathlib.Core.Path.{_≡_};
-ghost use mathlib.Core.Bool.{false};
-ghost use mathlib.Core.List.{List};
-ghost use lib.Ieee.{Float};
 ghost use lib.ListN.{length};
 ghost use Rattle.refusals.specs.declared.Cause.the-variants.{None};
-ghost use Rattle.newtonian.specs.declared.Vector.{Vector};
-ghost use Rattle.mesh.specs.Check.{meshOf, workAfter};
-ghost use Rattle.mesh.specs.Accepted.{Counted};
-ghost use Rattle.rows.specs.Row.{isMesh};
-ghost use Rattle.sheet.specs.Bytes.{prismVolume, volume};
-ghost use Rattle.input_causes.specs.Arguments.{inputOf};
+ghost use Rattle.sheet.specs.Input.{inputOf};
 ghost use Rattle.input_causes.specs.CountCause.{countCause};
 ghost use Rattle.writer.specs.Written.{writtenOf, Writes};
-ghost use Rattle.writer.specs.Steps.{checkBodyCause, lateCause, Leaves};
+ghost use Rattle.writer.specs.Steps.{lateCause, Leaves};
+use body_causes::check_body;
 use input_causes::count_cause;
 use input_causes::number_cause;
 use input_causes::sheet_length;
@@ -27,33 +20,6 @@ pub enum Written {
     Bytes(usize),
     Refused(Refusal),
 }
-
-// ---- 4 to 9
-
-fn prism_volume(lo: Vector, hi: Vector) -> f64
-    ensures { λ r. ⌜ r ≡ prismVolume lo hi ⌝ }
-{
-    (hi.x - lo.x) * (hi.y - lo.y) * (hi.z - lo.z)
-}
-
-// The volume, or the cause of refusal; work holds the order list afterwards, but after 4 and 9. Fields and stations play no part.
-fn check_body(kind: u32, verts: &[f64], faces: &[u32], work: &mut [u32]) -> Mesh
-    requires { ⌜ Counted (now verts) (now faces) (length (now work)) × (isMesh kind ≡ false → (length (now verts) ≡ 6) × (length (now faces) ≡ 0)) ⌝ }
-    ensures { λ r. ⌜ ((m b : Vector) (st : List Float) → r ≡ meshOf (checkBodyCause (inputOf kind (now (verts .entry)) (now (faces .entry)) m b st)) (volume (inputOf kind (now (verts .entry)) (now (faces .entry)) m b st))) ⌝ }
-    ensures { λ r. ⌜ ((m b : Vector) (st : List Float) → now (work .exit) ≡ workAfter (checkBodyCause (inputOf kind (now (verts .entry)) (now (faces .entry)) m b st)) (now (faces .entry)) (now (work .entry))) ⌝ }
-{
-    if rows::is_mesh(kind) {
-        return mesh::check_surface(verts, faces, work);
-    }
-    let lo = mesh::surface::vertex(verts, 0);
-    let hi = mesh::surface::vertex(verts, 1);
-    if prism::sides_within_limits(lo, hi) {
-        return Mesh::Volume(prism_volume(lo, hi));
-    }
-    Mesh::Refused(Refusal::TooThin)
-}
-
-// ---- the writer
 
 fn answer(cause: Cause, size: usize) -> Written
     ensures { λ r. ⌜ r ≡ writtenOf cause size ⌝ }
@@ -113,7 +79,14 @@ pub fn write_sheet(
 ) -> Written
     ensures { λ r. ⌜ Writes (inputOf kind (now (verts .entry)) (now (faces .entry)) magnetisation ambient (now (stations .entry))) (now (work .entry)) (now (out .entry)) r (now (work .exit)) (now (out .exit)) ⌝ }
 {
-    let counts = count_cause(kind, verts, faces, stations, work.len(), out.len());
+    let counts = count_cause(
+        kind,
+        verts.len(),
+        faces.len(),
+        stations.len(),
+        work.len(),
+        out.len(),
+    );
     if let Cause::Refused(r) = counts {
         return Written::Refused(r);
     }

@@ -7,11 +7,11 @@ use Rattle.anomaly.proofs.body_of.Tie as tie
 returns : tie.Need-returns
 unfolding bodyOf
 returns c =
-    rw (
-      ← c .before .before .before .before .before .before .before .before .before .trace .ensures,
-      ← c .before .before .before .before .before .row-times .ensures,
-      ← c .before .before .before .row-times2 .ensures,
-      ← c .before .row-times3 .ensures,
+    simp (
+      c .before .before .before .before .before .before .before .before .before .trace .ensures,
+      c .before .before .before .before .before .row-times .ensures,
+      c .before .before .before .row-times2 .ensures,
+      c .before .row-times3 .ensures,
     )
 
 pub body-of-spec : {M : Type 1} → statement M

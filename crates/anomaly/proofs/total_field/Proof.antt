@@ -7,15 +7,15 @@ use Rattle.anomaly.proofs.total_field.Tie as tie
 returns : tie.Need-returns
 unfolding totalField
 returns c =
-    rw (
+    simp (
       ← c .before .before .both-within-limits .ensures,
       c .before .if1 .taken,
-      ← c .total-field-of .ensures,
+      c .total-field-of .ensures,
     )
 
 returns-2 : tie.Need-returns-2
 unfolding totalField
-returns-2 c = rw (← c .before .both-within-limits .ensures, c .if1 .left)
+returns-2 c = simp (← c .before .both-within-limits .ensures, c .if1 .left)
 
 pub total-field-spec : {M : Type 1} → statement M
 total-field-spec =

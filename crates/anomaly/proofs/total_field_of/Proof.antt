@@ -7,13 +7,16 @@ use Rattle.anomaly.proofs.total_field_of.Tie as tie
 returns : tie.Need-returns
 unfolding totalFieldOf
 returns c =
-    simp (
-      ← c .before .before .before .dot .ensures,
-      ← c .before .before .dot2 .ensures,
-      ← c .before .norm .ensures,
-      ← c .norm2 .ensures,
-    )
+    let d = c .before .before .before in
+    simp (d .before .add-vectors .ensures, d .dot .ensures, c .before .before .dot2 .ensures, c .before .norm .ensures, c .norm2 .ensures)
 
 pub total-field-of-spec : {M : Type 1} → statement M
 total-field-of-spec =
-    tie.close (tie.spec (λ c κs. search needs) (λ c κs. search needs) (λ c κs. search needs) (λ c κs. search needs) returns)
+    tie.close
+    (tie.spec
+    (λ c κs. search needs)
+    (λ c κs. search needs)
+    (λ c κs. search needs)
+    (λ c κs. search needs)
+    (λ c κs. search needs)
+    returns)

@@ -20,32 +20,32 @@ returns-3 : tie.Need-returns-3
 returns-3 c =
     let z = c .before .before .before in
     let n = z .before in
-    c .with-sign .ensures ∙ s-zero _ _ (sym (ne-self _) ∙ n .before .if1 .left) (sym (ne-self _) ∙ n .if2 .left) (z .if3 .taken) (sym (c .before .before .is-sign-negative .ensures) ∙ c .before .if4 .taken)
+    c .with-sign .ensures ∙ s-zero _ _ (n .before .if1 .left) (n .if2 .left) (z .if3 .taken) (sym (c .before .before .is-sign-negative .ensures) ∙ c .before .if4 .taken)
 
 returns-4 : tie.Need-returns-4
 returns-4 c =
     let z = c .before .before in
     let n = z .before in
-    s-itself _ _ (sym (ne-self _) ∙ n .before .if1 .left) (sym (ne-self _) ∙ n .if2 .left) (z .if3 .taken) (sym (c .before .is-sign-negative .ensures) ∙ c .if4 .left)
+    s-itself _ _ (n .before .if1 .left) (n .if2 .left) (z .if3 .taken) (sym (c .before .is-sign-negative .ensures) ∙ c .if4 .left)
 
 returns-5 : tie.Need-returns-5
 returns-5 c =
     let z = c .before in
     let n = z .before .before in
-    c .with-sign2 .ensures ∙ c-zero _ _ (sym (ne-self _) ∙ n .before .if1 .left) (sym (ne-self _) ∙ n .if2 .left) (z .before .if3 .left) (z .if5 .taken)
+    c .with-sign2 .ensures ∙ c-zero _ _ (n .before .if1 .left) (n .if2 .left) (z .before .if3 .left) (z .if5 .taken)
 
 returns-6 : tie.Need-returns-6
 returns-6 c =
     let z = c .before .before .before in
     let n = z .before .before in
     rw (c .with-sign3 .ensures, c .before .before .atan .ensures)
-    (left _ _ (sym (ne-self _) ∙ n .before .if1 .left) (sym (ne-self _) ∙ n .if2 .left) (z .before .if3 .left) (z .if5 .left) (c .before .if6 .taken))
+    (left _ _ (n .before .if1 .left) (n .if2 .left) (z .before .if3 .left) (z .if5 .left) (c .before .if6 .taken))
 
 returns-7 : tie.Need-returns-7
 returns-7 c =
     let z = c .before .before in
     let n = z .before .before in
-    c .before .atan .ensures ∙ right _ _ (sym (ne-self _) ∙ n .before .if1 .left) (sym (ne-self _) ∙ n .if2 .left) (z .before .if3 .left) (z .if5 .left) (c .if6 .left)
+    c .before .atan .ensures ∙ right _ _ (n .before .if1 .left) (n .if2 .left) (z .before .if3 .left) (z .if5 .left) (c .if6 .left)
 
 pub atan2-spec : {M : Type 1} → statement M
 atan2-spec =

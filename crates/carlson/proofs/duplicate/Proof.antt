@@ -1,22 +1,15 @@
 -- `carlson::duplicate` meets its contract. Assumes nothing.
 use borrow.Author.Needs.{needs}
+use Rattle.carlson.specs.CarlsonLoop.{quarter}
 use Rattle.carlson.specs.Rc.{duplicate}
 use Rattle.carlson.proofs.duplicate.Statement.{statement}
 use Rattle.carlson.proofs.duplicate.Tie as tie
 
 returns : tie.Need-returns
-unfolding duplicate
-returns c = cc
+unfolding duplicate quarter
+returns c =
+    let at-root = c .before .before .before .before .before .before in
+    simp (at-root .before .root-of .ensures, at-root .root .ensures)
 
 pub duplicate-spec : {M : Type 1} → statement M
-duplicate-spec =
-    tie.close
-    (tie.spec
-    (λ c κs. search needs)
-    (λ c κs. search needs)
-    (λ c κs. search needs)
-    (λ c κs. search needs)
-    (λ c κs. search needs)
-    (λ c κs. search needs)
-    (λ c. search needs)
-    returns)
+duplicate-spec = tie.close (tie.spec (λ c κs. search needs) (λ c κs. search needs) (λ c. search needs) returns)

@@ -4,8 +4,8 @@ use native.Mathlib.Omega.{arith}
 use lib.Dec.{lit≤}
 use Rattle.carlson.specs.Rc.{rcValue}
 use Rattle.carlson.specs.Logarithm.{ln}
-use Rattle.doubles.proofs.Signs.{true→T}
-use Rattle.carlson.proofs.LnBits.{positive-number, in-float-52, own-bits-lt, ln-normal, int-bits-lt, int-positive, low-pos, ln-subnormal}
+use Rattle.doubles.proofs.Signs.{true→T, in-float}
+use Rattle.carlson.proofs.LnBits.{positive-number, own-bits-lt, ln-normal, int-bits-lt, int-positive, low-pos, ln-subnormal}
 use Rattle.carlson.proofs.ln_above.Statement.{statement}
 use Rattle.carlson.proofs.ln_above.Tie as tie
 
@@ -13,7 +13,7 @@ float-to-bits-b : tie.Need-float-to-bits-b
 float-to-bits-b c = positive-number (c .args .x) (c .pre)
 
 int-to-float-ln-of-bits : tie.Need-int-to-float-ln-of-bits
-int-to-float-ln-of-bits c = in-float-52 _ (omega arith)
+int-to-float-ln-of-bits c = in-float _ (omega arith)
 
 float-to-bits-ln-of-bits : tie.Need-float-to-bits-ln-of-bits
 float-to-bits-ln-of-bits c =

@@ -11,13 +11,13 @@ float-from-bits-ln-at : tie.Need-float-from-bits-ln-at
 float-from-bits-ln-at c = no-nan _ (omega arith)
 
 returns : tie.Need-returns
-returns c = rw (c .ln-at .ensures, c .before .difference .ensures) (low-bits rcValue _ _ (c .before .before .if1 .taken))
+returns c = rw (c .ln-at .ensures, c .before .difference .ensures) (low-bits rcValue _ _ (omega arith))
 
 float-from-bits-ln-at-2 : tie.Need-float-from-bits-ln-at-2
 float-from-bits-ln-at-2 c = no-nan _ (omega arith)
 
 returns-2 : tie.Need-returns-2
-returns-2 c = rw (c .ln-at2 .ensures, c .before .difference2 .ensures) (high-bits rcValue _ _ (c .before .before .if1 .left))
+returns-2 c = rw (c .ln-at2 .ensures, c .before .difference2 .ensures) (high-bits rcValue _ _ (omega arith))
 
 pub ln-of-bits-spec : {M : Type 1} → statement M
 ln-of-bits-spec =

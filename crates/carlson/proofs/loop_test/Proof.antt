@@ -6,7 +6,7 @@ use Rattle.carlson.proofs.loop_test.Tie as tie
 
 returns : tie.Need-returns
 unfolding loopTest
-returns c = rw (← c .abs .ensures)
+returns c = simp (c .abs .ensures)
 
 pub loop-test-spec : {M : Type 1} → statement M
 loop-test-spec = tie.close (tie.spec (λ c κs. search needs) returns)

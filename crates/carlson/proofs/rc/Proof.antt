@@ -7,7 +7,7 @@ use Rattle.carlson.proofs.rc.Tie as tie
 
 returns : tie.Need-returns
 unfolding rc div ofBits
-returns c = rw (c .if1 .taken)
+returns c = simp (c .if1 .taken)
 
 returns-2 : tie.Need-returns-2
 unfolding rc
@@ -15,11 +15,11 @@ returns-2 c =
     let above = c .before in
     let root = above .before in
     let below = root .before in
-    rw (below .before .if1 .left, below .if2 .taken, ← root .root .ensures, ← above .rc-above .ensures, ← c .times .ensures)
+    simp (below .before .if1 .left, below .if2 .taken, root .root .ensures, above .rc-above .ensures, c .times .ensures)
 
 returns-3 : tie.Need-returns-3
 unfolding rc
-returns-3 c = rw (c .before .before .if1 .left, c .before .if2 .left, ← c .rc-above2 .ensures)
+returns-3 c = simp (c .before .before .if1 .left, c .before .if2 .left, c .rc-above2 .ensures)
 
 pub rc-spec : {M : Type 1} → statement M
 rc-spec =

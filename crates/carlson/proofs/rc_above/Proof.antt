@@ -6,14 +6,14 @@ use Rattle.carlson.proofs.rc_above.Tie as tie
 
 returns : tie.Need-returns
 unfolding duplications rcAbove
-returns c = let u = c .before in rw (← u .before .before .abs .ensures, ← u .before .repeat .ensures, ← u .loop-test .ensures, c .if1 .taken)
+returns c = let u = c .before in simp (← u .before .before .abs .ensures, ← u .before .repeat .ensures, ← u .loop-test .ensures, c .if1 .taken)
 
 returns-2 : tie.Need-returns-2
 unfolding duplications rcAbove
 returns-2 c =
     let i = c .before .before .before .before in
     let u = i .before in
-    rw (← u .before .before .abs .ensures, ← u .before .repeat .ensures, ← u .loop-test .ensures, i .if1 .left, ← c .root .ensures, ← c .before .series .ensures)
+    simp (← u .before .before .abs .ensures, ← u .before .repeat .ensures, ← u .loop-test .ensures, i .if1 .left, c .root .ensures, c .before .series .ensures)
 
 pub rc-above-spec : {M : Type 1} → statement M
 rc-above-spec =

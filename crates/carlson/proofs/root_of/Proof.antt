@@ -8,11 +8,5 @@ use Rattle.carlson.proofs.root_of.Tie as tie
 returns : tie.Need-returns
 returns c = root-of-one (c .before .args .x) (true→T (c .before .good .0 .1)) (c .if1 .taken)
 
-root-requires : tie.Need-root-requires
-root-requires c κs = search needs
-
-returns-2 : tie.Need-returns-2
-returns-2 c = search needs
-
 pub root-of-spec : {M : Type 1} → statement M
-root-of-spec = tie.close (tie.spec returns root-requires returns-2)
+root-of-spec = tie.close (tie.spec returns (λ c κs. search needs) (λ c. search needs))

@@ -7,18 +7,18 @@ use Rattle.demagnetisation.proofs.ellipsoid_factors.Tie as tie
 returns : tie.Need-returns
 unfolding ellipsoidFactors
 returns c =
-    rw (
+    simp (
       ← c .before .before .before .before .vector-within-limits .ensures,
       c .before .before .before .if1 .taken,
       ← c .before .before .all-positive .ensures,
       c .before .if2 .taken,
-      ← c .factors-of .ensures,
+      c .factors-of .ensures,
     )
 
 returns-2 : tie.Need-returns-2
 unfolding ellipsoidFactors
 returns-2 c =
-    rw (
+    simp (
       ← c .before .before .before .vector-within-limits .ensures,
       c .before .before .if1 .taken,
       ← c .before .all-positive .ensures,
@@ -27,7 +27,7 @@ returns-2 c =
 
 returns-3 : tie.Need-returns-3
 unfolding ellipsoidFactors
-returns-3 c = rw (← c .before .vector-within-limits .ensures, c .if1 .left)
+returns-3 c = simp (← c .before .vector-within-limits .ensures, c .if1 .left)
 
 pub ellipsoid-factors-spec : {M : Type 1} → statement M
 ellipsoid-factors-spec =

@@ -8,10 +8,10 @@ returns : tie.Need-returns
 unfolding factorsOf
 returns c =
     simp (
-      ← c .before .before .before .factor .ensures,
-      ← c .before .before .factor2 .ensures,
-      ← c .before .factor3 .ensures,
-      ← c .together .ensures,
+      c .before .before .before .factor .ensures,
+      c .before .before .factor2 .ensures,
+      c .before .factor3 .ensures,
+      c .together .ensures,
     )
 
 pub factors-of-spec : {M : Type 1} → statement M

@@ -6,7 +6,7 @@ use Rattle.demagnetisation.proofs.koenigsberger_of.Tie as tie
 
 returns : tie.Need-returns
 unfolding koenigsbergerOf
-returns c = rw (← c .before .norm .ensures, ← c .norm2 .ensures)
+returns c = simp (c .before .norm .ensures, c .norm2 .ensures)
 
 pub koenigsberger-of-spec : {M : Type 1} → statement M
 koenigsberger-of-spec = tie.close (tie.spec (λ c κs. search needs) (λ c κs. search needs) returns)

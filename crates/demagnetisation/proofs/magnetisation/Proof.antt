@@ -7,15 +7,15 @@ use Rattle.demagnetisation.proofs.magnetisation.Tie as tie
 returns : tie.Need-returns
 unfolding magnetisation
 returns c =
-    rw (
+    simp (
       ← c .before .before .magnetisation-within-limits .ensures,
       c .before .if1 .taken,
-      ← c .magnetisation-of .ensures,
+      c .magnetisation-of .ensures,
     )
 
 returns-2 : tie.Need-returns-2
 unfolding magnetisation
-returns-2 c = rw (← c .before .magnetisation-within-limits .ensures, c .if1 .left)
+returns-2 c = simp (← c .before .magnetisation-within-limits .ensures, c .if1 .left)
 
 pub magnetisation-spec : {M : Type 1} → statement M
 magnetisation-spec =

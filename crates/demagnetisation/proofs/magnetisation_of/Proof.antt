@@ -7,13 +7,13 @@ use Rattle.demagnetisation.proofs.magnetisation_of.Tie as tie
 returns : tie.Need-returns
 unfolding magnetisationOf
 returns c =
-    rw (
-      ← c .before .before .before .before .before .before .before .before .before .before .before .diagonal .ensures,
-      ← c .before .before .before .before .equation .ensures,
-      ← c .before .before .before .equation2 .ensures,
-      ← c .before .before .equation3 .ensures,
-      ← c .before .rows-of .ensures,
-      ← c .gauss .ensures,
+    simp (
+      c .before .before .before .before .before .before .before .before .before .before .before .diagonal .ensures,
+      c .before .before .before .before .equation .ensures,
+      c .before .before .before .equation2 .ensures,
+      c .before .before .equation3 .ensures,
+      c .before .rows-of .ensures,
+      c .gauss .ensures,
     )
 
 pub magnetisation-of-spec : {M : Type 1} → statement M

@@ -6,16 +6,16 @@ use Rattle.demagnetisation.proofs.together.Tie as tie
 
 returns : tie.Need-returns
 unfolding together
-returns c = rw (c .before .a .given .1)
+returns c = simp (c .before .a .given .1)
 
 returns-2 : tie.Need-returns-2
 unfolding together
-returns-2 c = rw (c .before .before .before .before .a2 .given .1, c .before .b .given .1)
+returns-2 c = simp (c .before .before .before .before .a2 .given .1, c .before .b .given .1)
 
 returns-3 : tie.Need-returns-3
 unfolding together
 returns-3 c =
-    rw (
+    simp (
       c .before .before .before .before .before .before .before .a2 .given .1,
       c .before .before .before .before .b2 .given .1,
       c .before .c .given .1,
@@ -24,7 +24,7 @@ returns-3 c =
 returns-4 : tie.Need-returns-4
 unfolding together
 returns-4 c =
-    rw (
+    simp (
       c .before .before .before .before .before .before .before .a2 .given .1,
       c .before .before .before .before .b2 .given .1,
       c .before .c2 .given .1,

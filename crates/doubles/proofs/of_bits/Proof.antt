@@ -1,5 +1,6 @@
 -- `doubles::of_bits` meets its contract. Assumes nothing.
 use mathlib.Core.Path.{sym, refl, _∙_, _≡_}
+use native.Mathlib.Omega.{arith}
 use lib.Ieee.{binary64, nan, div, ofBits}
 use borrow.Author.Needs.{needs}
 use Rattle.doubles.proofs.Fields.{number-bits, nan-bits}
@@ -11,13 +12,10 @@ unfolding div ofBits
 quotient = refl
 
 returns : tie.Need-returns
-returns c = quotient ∙ sym (nan-bits (c .before .args .b) (c .if1 .taken))
+returns c = quotient ∙ sym (nan-bits (c .before .args .b) (omega arith))
 
 float-from-bits-result : tie.Need-float-from-bits-result
-float-from-bits-result c = number-bits (c .before .args .b) (c .if1 .left)
-
-returns-2 : tie.Need-returns-2
-returns-2 c = search needs
+float-from-bits-result c = number-bits (c .before .args .b) (omega arith)
 
 pub of-bits-spec : {M : Type 1} → statement M
-of-bits-spec = tie.close (tie.spec returns float-from-bits-result returns-2)
+of-bits-spec = tie.close (tie.spec returns float-from-bits-result (λ c. search needs))

@@ -1,53 +1,54 @@
 -- `input_causes::count_cause` meets its contract: the causes 1, 2 and 12 in order. Assumes nothing.
-use mathlib.Core.Path.{sym, _∙_}
+use mathlib.Core.Path.{_≡_, sym, _∙_}
+use mathlib.Core.Bool.{true}
+use Prim.{tt}
+use Prim.Native.Nat.{_/_}
 use native.Mathlib.Omega.{arith}
-use denote.Ref.{now}
-use borrow.Author.Needs.{needs}
 use borrow.Author.Tests.{not-true, not-false}
-use Rattle.newtonian.specs.declared.Vector.{Vector}
-use Rattle.sheet.specs.Input.{SheetInput}
-use Rattle.input_causes.specs.Arguments.{inputOf}
-use Rattle.input_causes.proofs.Counts.{few-each, not-well-formed, not-few, short-work, short-out, counted}
+use Rattle.rows.specs.Kinds.{withinCounts}
+use Rattle.rows.proofs.Counts.{counts-each}
+use Rattle.input_causes.specs.CountCause.{wellFormed}
+use Rattle.input_causes.proofs.Counts.{not-well-formed, not-few, short-work, short-out, counted}
 use Rattle.input_causes.proofs.count_cause.Statement.{statement}
 use Rattle.input_causes.proofs.count_cause.Tie as tie
 
-abbrev input : tie.Start → Vector → Vector → SheetInput
-input c m b = let a = c .args in inputOf (a .kind) (now (a .verts)) (now (a .faces)) m b (now (a .stations))
+-- no cause 1
+formed : (c : tie.Else1) → wellFormed (c .before .before .args .kind) (c .before .before .args .verts) (c .before .before .args .faces) (c .before .before .args .stations) ≡ true
+formed c = sym (c .before .well-formed .ensures) ∙ not-false _ (c .if1 .left)
+
+-- nor 2
+few : (c : tie.Else2) → withinCounts (c .before .before .before .before .args .verts / 3) (c .before .before .before .before .args .faces / 3) (c .before .before .before .before .args .stations / 3) ≡ true
+few c = sym (c .before .within-counts .ensures) ∙ not-false _ (c .if2 .left)
 
 returns : tie.Need-returns
-returns c = let st = c .before .before .before .before .before in λ m b. not-well-formed (input st m b) (st .args .work) (st .args .out) (sym (c .before .well-formed .ensures) ∙ not-true _ (c .if1 .taken))
+returns c = let a = c .before .before .args in not-well-formed (a .work) (a .out) (a .kind) (a .verts) (a .faces) (a .stations) (sym (c .before .well-formed .ensures) ∙ not-true _ (c .if1 .taken))
 
 returns-2 : tie.Need-returns-2
 returns-2 c =
-    let st = c .before .before .before .before .before .before .before in
-    λ m b. not-few (input st m b) (st .args .work) (st .args .out) (sym (c .before .before .before .well-formed .ensures) ∙ not-false _ (c .before .before .if1 .left)) (sym (c .before .few .ensures) ∙ not-true _ (c .if2 .taken))
+    let e = c .before .before in
+    let a = e .before .before .args in
+    not-few (a .work) (a .out) (a .kind) (a .verts) (a .faces) (a .stations) (formed e) (sym (c .before .within-counts .ensures) ∙ not-true _ (c .if2 .taken))
 
 returns-3 : tie.Need-returns-3
 returns-3 c =
-    let st = c .before .before .before .before .before .before .before .before in
-    λ m b. short-work (input st m b) (st .args .work) (st .args .out) (sym (c .before .before .before .before .well-formed .ensures) ∙ not-false _ (c .before .before .before .if1 .left)) (sym (c .before .before .few .ensures) ∙ not-false _ (c .before .if2 .left)) (c .if3 .taken)
+    let e = c .before .before .before in
+    let a = e .before .before .args in
+    short-work (a .work) (a .out) (a .kind) (a .verts) (a .faces) (a .stations) (formed e) (few (c .before)) (omega arith)
 
 returns-4 : tie.Need-returns-4
 returns-4 c =
-    let st = c .before .before .before .before .before .before .before .before .before .before in
-    λ m b. short-out (input st m b) (st .args .work) (st .args .out) (sym (c .before .before .before .before .before .before .well-formed .ensures) ∙ not-false _ (c .before .before .before .before .before .if1 .left)) (sym (c .before .before .before .before .few .ensures) ∙ not-false _ (c .before .before .before .if2 .left)) (c .before .before .if3 .left)
-    (omega (arith, c .before .sheet-length .ensures, c .if4 .taken))
+    let g = c .before .before .before in
+    let e = g .before .before in
+    let a = e .before .before .args in
+    short-out (a .work) (a .out) (a .kind) (a .verts) (a .faces) (a .stations) (formed e) (few g) (omega arith) (omega (arith, c .before .sheet-length .ensures))
 
 returns-5 : tie.Need-returns-5
 returns-5 c =
-    let st = c .before .before .before .before .before .before .before .before .before .before in
-    λ m b. counted (input st m b) (st .args .work) (st .args .out) (sym (c .before .before .before .before .before .before .well-formed .ensures) ∙ not-false _ (c .before .before .before .before .before .if1 .left)) (sym (c .before .before .before .before .few .ensures) ∙ not-false _ (c .before .before .before .if2 .left)) (c .before .before .if3 .left)
-    (omega (arith, c .before .sheet-length .ensures, c .if4 .left))
+    let g = c .before .before .before in
+    let e = g .before .before in
+    let a = e .before .before .args in
+    counted (a .work) (a .out) (a .kind) (a .verts) (a .faces) (a .stations) (formed e) (few g) (omega arith) (omega (arith, c .before .sheet-length .ensures))
 
 pub count-cause-spec : {M : Type 1} → statement M
 count-cause-spec =
-    tie.close
-    (tie.spec
-    (λ c κs. search needs)
-    returns
-    (λ c κs. search needs)
-    returns-2
-    returns-3
-    (λ c κs. few-each _ _ _ (sym (c .before .before .few .ensures) ∙ not-false _ (c .before .if2 .left)))
-    returns-4
-    returns-5)
+    tie.close (tie.spec (λ c κs. tt) returns (λ c κs. tt) returns-2 returns-3 (λ c κs. counts-each _ _ _ (few (c .before))) returns-4 returns-5)

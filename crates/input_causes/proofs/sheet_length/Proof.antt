@@ -3,7 +3,7 @@ use mathlib.Core.Path.{_≡_, ap}
 use Prim.Native.Nat.{ℕ, _*_}
 use native.Mathlib.Omega.{arith}
 use borrow.Author.Needs.{needs}
-use Rattle.rows.specs.Row.{rowWidth}
+use Rattle.rows.specs.Kinds.{rowWidth}
 use Rattle.input_causes.proofs.sheet_length.Statement.{statement}
 use Rattle.input_causes.proofs.sheet_length.Tie as tie
 

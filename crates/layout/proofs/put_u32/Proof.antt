@@ -2,7 +2,6 @@
 use native.Mathlib.Omega.{arith}
 use native.Mathlib.Numerals.{add-one}
 use lib.ListN.{length-set}
-use borrow.Author.Needs.{needs}
 use Rattle.layout.specs.LittleEndian.{bytes}
 use Rattle.layout.proofs.Numbers.{two, three}
 use Rattle.layout.proofs.put_u32.Statement.{statement}
@@ -16,16 +15,16 @@ pub put-u32-spec : {M : Type 1} → statement M
 put-u32-spec =
     tie.close
     (tie.spec
-    (λ c. search needs)
-    (λ c. search needs)
-    (λ c. search needs)
-    (λ c. search needs)
+    (λ c. omega arith)
+    (λ c. omega arith)
+    (λ c. omega arith)
+    (λ c. omega arith)
     (λ c. simp length-set (omega arith))
-    (λ c. search needs)
-    (λ c. search needs)
+    (λ c. omega arith)
+    (λ c. omega arith)
     (λ c. simp length-set (omega arith))
-    (λ c. search needs)
-    (λ c. search needs)
+    (λ c. omega arith)
+    (λ c. omega arith)
     (λ c. simp length-set (omega arith))
-    (λ c. search needs)
+    (λ c. simp length-set)
     returns)

@@ -1,6 +1,6 @@
 -- `layout::put_u64` meets its contract: two runs of four bytes are one of eight. Assumes nothing.
 use Prim.Native.Nat.{_+_, _/_, _%_}
-use borrow.Author.Needs.{needs}
+use native.Mathlib.Omega.{arith}
 use Rattle.layout.specs.LittleEndian.{bytes}
 use Rattle.layout.proofs.Stores.{sets-then}
 use Rattle.layout.proofs.Numbers.{bytes-length, bytes-eight}
@@ -16,4 +16,4 @@ returns c =
     (sets-then (a .s .now) (a .i) (a .i + 4) low (bytes 4 (a .x / 0x1_0000_0000)) (rw bytes-length))
 
 pub put-u64-spec : {M : Type 1} → statement M
-put-u64-spec = tie.close (tie.spec (λ c. search needs) (λ c κs. search needs) (λ c. search needs) (λ c. search needs) (λ c κs. search needs) (λ c. search needs) returns)
+put-u64-spec = tie.close (tie.spec (λ c. omega arith) (λ c κs. omega arith) (λ c. omega arith) (λ c. omega arith) (λ c κs. omega arith) (λ c. omega arith) returns)

@@ -1,31 +1,32 @@
 -- `layout::u32_at` meets its contract. Assumes nothing.
-use borrow.Author.Needs.{needs}
+use Prim.{tt}
+use native.Mathlib.Omega.{arith}
 use Rattle.layout.proofs.Numbers.{number-four}
 use Rattle.layout.proofs.u32_at.Statement.{statement}
 use Rattle.layout.proofs.u32_at.Tie as tie
 
 returns : tie.Need-returns
-returns c = rw number-four (cc)
+returns c = rw number-four (simp (c .wide4 .ensures .0, c .before .before .wide3 .ensures .0, c .before .before .before .before .wide2 .ensures .0, c .before .before .before .before .before .before .wide .ensures .0))
 
 pub u32-at-spec : {M : Type 1} → statement M
 u32-at-spec =
     tie.close
     (tie.spec
-    (λ c. search needs)
-    (λ c κs. search needs)
-    (λ c. search needs)
-    (λ c. search needs)
-    (λ c κs. search needs)
-    (λ c. search needs)
-    (λ c. search needs)
-    (λ c κs. search needs)
-    (λ c. search needs)
-    (λ c. search needs)
-    (λ c κs. search needs)
-    (λ c. search needs)
-    (λ c. search needs)
-    (λ c. search needs)
-    (λ c. search needs)
-    (λ c. search needs)
-    (λ c. search needs)
+    (λ c. omega arith)
+    (λ c κs. tt)
+    (λ c. omega arith)
+    (λ c. omega arith)
+    (λ c κs. tt)
+    (λ c. omega arith)
+    (λ c. omega arith)
+    (λ c κs. tt)
+    (λ c. omega arith)
+    (λ c. omega arith)
+    (λ c κs. tt)
+    (λ c. omega arith)
+    (λ c. omega arith)
+    (λ c. omega arith)
+    (λ c. omega arith)
+    (λ c. omega arith)
+    (λ c. omega arith)
     returns)

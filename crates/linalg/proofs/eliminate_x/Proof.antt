@@ -6,7 +6,7 @@ use Rattle.linalg.proofs.eliminate_x.Tie as tie
 
 returns : tie.Need-returns
 unfolding eliminateX
-returns c = rw (← c .before .before .without-x .ensures, ← c .before .without-x2 .ensures, ← c .rows-of .ensures)
+returns c = simp (c .before .before .without-x .ensures, c .before .without-x2 .ensures, c .rows-of .ensures)
 
 pub eliminate-x-spec : {M : Type 1} → statement M
 eliminate-x-spec =

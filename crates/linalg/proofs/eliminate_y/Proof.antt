@@ -6,7 +6,7 @@ use Rattle.linalg.proofs.eliminate_y.Tie as tie
 
 returns : tie.Need-returns
 unfolding eliminateY
-returns c = rw (← c .before .without-y .ensures, ← c .rows-of .ensures)
+returns c = simp (c .before .without-y .ensures, c .rows-of .ensures)
 
 pub eliminate-y-spec : {M : Type 1} → statement M
 eliminate-y-spec = tie.close (tie.spec (λ c κs. search needs) (λ c κs. search needs) returns)

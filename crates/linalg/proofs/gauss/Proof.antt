@@ -7,12 +7,12 @@ use Rattle.linalg.proofs.gauss.Tie as tie
 returns : tie.Need-returns
 unfolding gauss
 returns c =
-    rw (
-      ← c .before .before .before .before .pivot-x .ensures,
-      ← c .before .before .before .eliminate-x .ensures,
-      ← c .before .before .pivot-y .ensures,
-      ← c .before .eliminate-y .ensures,
-      ← c .back-substituted .ensures,
+    simp (
+      c .before .before .before .before .pivot-x .ensures,
+      c .before .before .before .eliminate-x .ensures,
+      c .before .before .pivot-y .ensures,
+      c .before .eliminate-y .ensures,
+      c .back-substituted .ensures,
     )
 
 pub gauss-spec : {M : Type 1} → statement M

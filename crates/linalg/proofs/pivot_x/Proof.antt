@@ -7,40 +7,40 @@ use Rattle.linalg.proofs.pivot_x.Tie as tie
 returns : tie.Need-returns
 unfolding pivotX
 returns c =
-    rw (
+    simp (
       ← c .before .before .before .before .takes .ensures,
       c .before .before .before .if1 .taken,
       ← c .before .before .takes2 .ensures,
       c .before .if2 .taken,
-      ← c .rows-of .ensures,
+      c .rows-of .ensures,
     )
 
 returns-2 : tie.Need-returns-2
 unfolding pivotX
 returns-2 c =
-    rw (
+    simp (
       ← c .before .before .before .before .takes .ensures,
       c .before .before .before .if1 .taken,
       ← c .before .before .takes2 .ensures,
       c .before .if2 .left,
-      ← c .rows-of2 .ensures,
+      c .rows-of2 .ensures,
     )
 
 returns-3 : tie.Need-returns-3
 unfolding pivotX
 returns-3 c =
-    rw (
+    simp (
       ← c .before .before .before .before .takes .ensures,
       c .before .before .before .if1 .left,
       ← c .before .before .takes3 .ensures,
       c .before .if3 .taken,
-      ← c .rows-of3 .ensures,
+      c .rows-of3 .ensures,
     )
 
 returns-4 : tie.Need-returns-4
 unfolding pivotX
 returns-4 c =
-    rw (
+    simp (
       ← c .before .before .before .takes .ensures,
       c .before .before .if1 .left,
       ← c .before .takes3 .ensures,

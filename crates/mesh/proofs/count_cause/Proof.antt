@@ -1,9 +1,8 @@
 -- `mesh::count_cause` meets its contract: the causes 1, 2 and 12 in order. Assumes nothing.
 use mathlib.Core.Path.{sym}
-use lib.ListN.{length}
 use denote.Ref.{now}
 use Rattle.mesh.specs.CauseLaws.{count-none}
-use Rattle.mesh.proofs.Answers.{refuse-vertices, refuse-triples, many-vertices, many-faces, too-short}
+use Rattle.mesh.proofs.Counts.{refuse-vertices, refuse-triples, many-vertices, many-faces, too-short}
 use Rattle.mesh.proofs.count_cause.Statement.{statement}
 use Rattle.mesh.proofs.count_cause.Tie as tie
 

@@ -4,15 +4,16 @@ use Prim.Native.Nat.{_≤_, _-_}
 use native.Mathlib.Omega.{arith}
 use borrow.Author.Needs.{needs}
 use Rattle.newtonian.specs.Fold.{Fold, fold-none, fold-more}
-use Rattle.neumaier.specs.Neumaier.{fieldNumbers, addTermAt, addTerms}
+use Rattle.neumaier.specs.Neumaier.{addTermAt, addTerms}
+use Rattle.newtonian.specs.Vectors.{fieldSize}
 use Rattle.neumaier.proofs.add_terms.Statement.{statement}
 use Rattle.neumaier.proofs.add_terms.Tie as tie
 
 abbrev Inv-loop : tie.InvT-loop
-Inv-loop terms out₀ k₀ out k = (k ≤ fieldNumbers) × (out ≡ Fold k (addTermAt terms) out₀)
+Inv-loop terms out₀ k₀ out k = (k ≤ fieldSize) × (out ≡ Fold k (addTermAt terms) out₀)
 
 abbrev μ-loop : tie.MeasureT-loop
-μ-loop terms out₀ k₀ out k = fieldNumbers - k
+μ-loop terms out₀ k₀ out k = fieldSize - k
 
 loop-holds : tie.Need-loop-holds Inv-loop μ-loop
 loop-holds c = (search needs, rw fold-none)
@@ -23,7 +24,7 @@ loop-again c = (search needs, rw fold-more (simp (c .add-term .ensures, c .befor
 returns : tie.Need-returns Inv-loop μ-loop
 unfolding addTerms
 returns c =
-    let e : c .before .loop .k ≡ fieldNumbers = omega arith in
+    let e : c .before .loop .k ≡ fieldSize = omega arith in
     cc
 
 pub add-terms-spec : {M : Type 1} → statement M

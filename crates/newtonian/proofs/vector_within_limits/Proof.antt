@@ -6,32 +6,7 @@ use Rattle.newtonian.proofs.vector_within_limits.Tie as tie
 
 returns : tie.Need-returns
 unfolding vectorWithinLimits
-returns c =
-    simp (
-      ← c .within-limits3 .ensures,
-      c .before .if2 .taken,
-      ← c .before .before .within-limits2 .ensures,
-      c .before .before .before .if1 .taken,
-      ← c .before .before .before .before .within-limits .ensures,
-    )
-
-returns-2 : tie.Need-returns-2
-unfolding vectorWithinLimits
-returns-2 c =
-    simp (
-      c .if2 .left,
-      ← c .before .within-limits2 .ensures,
-      c .before .before .if1 .taken,
-      ← c .before .before .before .within-limits .ensures,
-    )
-
-returns-3 : tie.Need-returns-3
-unfolding vectorWithinLimits
-returns-3 c =
-    simp (
-      c .if1 .left,
-      ← c .before .within-limits .ensures,
-    )
+returns c = simp (c .within-limits3 .ensures, c .before .within-limits2 .ensures, c .before .before .within-limits .ensures)
 
 pub vector-within-limits-spec : {M : Type 1} → statement M
-vector-within-limits-spec = tie.close (tie.spec (λ c κs. search needs) (λ c κs. search needs) (λ c κs. search needs) returns returns-2 returns-3)
+vector-within-limits-spec = tie.close (tie.spec (λ c κs. search needs) (λ c κs. search needs) (λ c κs. search needs) returns)

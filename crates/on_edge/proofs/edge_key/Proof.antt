@@ -7,11 +7,11 @@ use Rattle.on_edge.proofs.edge_key.Tie as tie
 
 returns : tie.Need-returns
 unfolding edgeKey
-returns c = simp (lt-ltb _ _ (c .if1 .taken))
+returns c = simp (c .number .ensures, lt-ltb _ _ (c .before .if1 .taken))
 
 returns-2 : tie.Need-returns-2
 unfolding edgeKey
-returns-2 c = simp (le-ltb _ _ (c .if1 .left))
+returns-2 c = simp (c .number2 .ensures, le-ltb _ _ (c .before .if1 .left))
 
 pub edge-key-spec : {M : Type 1} → statement M
-edge-key-spec = tie.close (tie.spec (λ c. search needs) (λ c. search needs) returns (λ c. search needs) (λ c. search needs) returns-2)
+edge-key-spec = tie.close (tie.spec (λ c κs. search needs) returns (λ c κs. search needs) returns-2)

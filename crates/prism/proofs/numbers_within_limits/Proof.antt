@@ -6,32 +6,7 @@ use Rattle.prism.proofs.numbers_within_limits.Tie as tie
 
 returns : tie.Need-returns
 unfolding numbersWithinLimits
-returns c =
-    simp (
-      ← c .vector-within-limits3 .ensures,
-      c .before .if2 .taken,
-      ← c .before .before .vector-within-limits2 .ensures,
-      c .before .before .before .if1 .taken,
-      ← c .before .before .before .before .vector-within-limits .ensures,
-    )
-
-returns-2 : tie.Need-returns-2
-unfolding numbersWithinLimits
-returns-2 c =
-    simp (
-      c .if2 .left,
-      ← c .before .vector-within-limits2 .ensures,
-      c .before .before .if1 .taken,
-      ← c .before .before .before .vector-within-limits .ensures,
-    )
-
-returns-3 : tie.Need-returns-3
-unfolding numbersWithinLimits
-returns-3 c =
-    simp (
-      c .if1 .left,
-      ← c .before .vector-within-limits .ensures,
-    )
+returns c = simp (c .vector-within-limits3 .ensures, c .before .vector-within-limits2 .ensures, c .before .before .vector-within-limits .ensures)
 
 pub numbers-within-limits-spec : {M : Type 1} → statement M
-numbers-within-limits-spec = tie.close (tie.spec (λ c κs. search needs) (λ c κs. search needs) (λ c κs. search needs) returns returns-2 returns-3)
+numbers-within-limits-spec = tie.close (tie.spec (λ c κs. search needs) (λ c κs. search needs) (λ c κs. search needs) returns)

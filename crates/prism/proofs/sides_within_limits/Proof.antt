@@ -6,32 +6,7 @@ use Rattle.prism.proofs.sides_within_limits.Tie as tie
 
 returns : tie.Need-returns
 unfolding sidesWithinLimits
-returns c =
-    simp (
-      ← c .side-within-limits3 .ensures,
-      c .before .if2 .taken,
-      ← c .before .before .side-within-limits2 .ensures,
-      c .before .before .before .if1 .taken,
-      ← c .before .before .before .before .side-within-limits .ensures,
-    )
-
-returns-2 : tie.Need-returns-2
-unfolding sidesWithinLimits
-returns-2 c =
-    simp (
-      c .if2 .left,
-      ← c .before .side-within-limits2 .ensures,
-      c .before .before .if1 .taken,
-      ← c .before .before .before .side-within-limits .ensures,
-    )
-
-returns-3 : tie.Need-returns-3
-unfolding sidesWithinLimits
-returns-3 c =
-    simp (
-      c .if1 .left,
-      ← c .before .side-within-limits .ensures,
-    )
+returns c = simp (c .side-within-limits3 .ensures, c .before .side-within-limits2 .ensures, c .before .before .side-within-limits .ensures)
 
 pub sides-within-limits-spec : {M : Type 1} → statement M
-sides-within-limits-spec = tie.close (tie.spec (λ c κs. search needs) (λ c κs. search needs) (λ c κs. search needs) returns returns-2 returns-3)
+sides-within-limits-spec = tie.close (tie.spec (λ c κs. search needs) (λ c κs. search needs) (λ c κs. search needs) returns)

@@ -1,17 +1,24 @@
 -- `recheck_line::recheck_line` meets its contract. Assumes nothing.
+use native.Mathlib.Omega.{arith}
+use lib.ListN.{length}
+use denote.Ref.{now}
 use borrow.Author.Tests.{le-leb, lt-leb}
-use Rattle.recheck_line.specs.Line.{recheckLine}
 use borrow.Author.Needs.{needs}
+use Rattle.recheck_line.specs.Line.{maxInput, recheckLine}
 use Rattle.recheck_line.proofs.recheck_line.Statement.{statement}
 use Rattle.recheck_line.proofs.recheck_line.Tie as tie
 
 returns : tie.Need-returns
 unfolding recheckLine
-returns c = rw (lt-leb _ _ (c .before .before .before .before .if1 .taken)) (c .before .before .verdict-line .ensures)
+returns c =
+    let n = length (now (c .before .before .before .before .before .before .before .args .input)) in
+    rw (lt-leb n maxInput (omega (arith, c .before .before .before .before .if1 .taken))) (c .before .before .verdict-line .ensures)
 
 returns-2 : tie.Need-returns-2
 unfolding recheckLine
-returns-2 c = rw (le-leb _ _ (c .before .before .before .before .before .if1 .left), ← c .before .before .before .before .check-sheet .ensures .0) (c .before .before .verdict-line2 .ensures)
+returns-2 c =
+    let n = length (now (c .before .before .before .before .before .before .before .before .args .input)) in
+    rw (le-leb n maxInput (omega (arith, c .before .before .before .before .before .if1 .left)), ← c .before .before .before .before .check-sheet .ensures .0) (c .before .before .verdict-line2 .ensures)
 
 pub recheck-line-spec : {M : Type 1} → statement M
 recheck-line-spec = tie.close (tie.spec (λ c κs. search needs) (λ c. search needs) returns (λ c κs. search needs) (λ c κs. search needs) (λ c. search needs) returns-2)

@@ -1,4 +1,4 @@
--- `replay::word_at` meets its contract. Assumes nothing.
+-- `replay::word_at` meets its contract: so far, the number is that of the first i digits. Assumes nothing.
 use mathlib.Core.Path.{_≡_, sym, _∙_}
 use Prim.Native.Nat.{_+_, _-_, _*_, _^_, _≤_, _<_}
 use native.Mathlib.Omega.{arith}
@@ -17,56 +17,38 @@ abbrev μ-loop : tie.MeasureT-loop
 returns : tie.Need-returns Inv-loop μ-loop
 returns c = past-end (c .before .before .args .s .now) (c .before .before .args .k) (c .if1 .taken)
 
-mul-from : tie.Need-mul-from Inv-loop μ-loop
-mul-from c = omega arith
-
 loop-holds : tie.Need-loop-holds Inv-loop μ-loop
 loop-holds c = ((omega arith, omega arith, omega arith), opens (c .before .before .args .s .now) (c .before .before .args .k) (c .if1 .left))
 
-add-digit : tie.Need-add-digit Inv-loop μ-loop
-add-digit c = omega arith
-
-shared-slice-read-digit : tie.Need-shared-slice-read-digit Inv-loop μ-loop
-shared-slice-read-digit c = omega arith
-
-digit-requires : tie.Need-digit-requires Inv-loop μ-loop
-digit-requires c κs = tt
-
 returns-2 : tie.Need-returns-2 Inv-loop μ-loop
 returns-2 c =
-    let l = c .before .before .before .before .loop in
-    let s = c .before .before .before .before .before .before .before .args .s .now in
-    let k = c .before .before .before .before .before .before .before .args .k in
-    sym (l .inv .1 ∙ bad s (17 * k + l .i) (l .v) (c .before .digit .result) (c .before .digit .ensures) (16 - l .i) (omega (arith, c .before .before .before .loop-test .taken)) (c .if2 .taken))
+    let at = c .before .before .before .before in
+    let l = at .loop in
+    let a = at .before .before .before .args in
+    sym (l .inv .1 ∙ bad (a .s .now) (17 * a .k + l .i) (l .v) (c .before .digit .result) (c .before .digit .ensures) (16 - l .i) (omega (arith, c .before .before .before .loop-test .taken)) (c .if2 .taken))
 
 mul-v : tie.Need-mul-v Inv-loop μ-loop
-mul-v c = omega (arith, fits (c .before .before .before .before .loop .v) (c .before .digit .result) (c .before .before .before .before .loop .i) (c .before .before .before .before .loop .inv .0 .2) (c .before .before .before .loop-test .taken) (c .if2 .left))
+mul-v c = let l = c .before .before .before .before .loop in omega (arith, fits (l .v) (c .before .digit .result) (l .i) (l .inv .0 .2) (c .before .before .before .loop-test .taken) (c .if2 .left))
 
 add-v : tie.Need-add-v Inv-loop μ-loop
-add-v c = omega (arith, fits (c .before .before .before .before .loop .v) (c .before .digit .result) (c .before .before .before .before .loop .i) (c .before .before .before .before .loop .inv .0 .2) (c .before .before .before .loop-test .taken) (c .if2 .left))
-
-add-i : tie.Need-add-i Inv-loop μ-loop
-add-i c = omega arith
-
-loop-less : tie.Need-loop-less Inv-loop μ-loop
-loop-less c = omega arith
+add-v c = let l = c .before .before .before .before .loop in omega (arith, fits (l .v) (c .before .digit .result) (l .i) (l .inv .0 .2) (c .before .before .before .loop-test .taken) (c .if2 .left))
 
 loop-again : tie.Need-loop-again Inv-loop μ-loop
 loop-again c =
-    let l = c .before .before .before .before .loop in
-    let s = c .before .before .before .before .before .before .before .args .s .now in
-    let k = c .before .before .before .before .before .before .before .args .k in
-    let t = c .before .before .before .loop-test .taken in (
-      (omega arith, l .inv .0 .1, bound (l .v) (c .before .digit .result) (l .i) (l .inv .0 .2) (c .if2 .left)),
-      l .inv .1 ∙ more s (17 * k + l .i) (l .v) (c .before .digit .result) (c .before .digit .ensures) (16 - l .i) (16 - (l .i + 1)) (17 * k + (l .i + 1)) (omega arith) (omega arith) (c .if2 .left),
+    let at = c .before .before .before .before in
+    let l = at .loop in
+    let a = at .before .before .before .args in
+    let t = c .before .before .before .loop-test .taken in
+    let d = c .before .digit in (
+      (omega arith, l .inv .0 .1, bound (l .v) (d .result) (l .i) (l .inv .0 .2) (c .if2 .left)),
+      l .inv .1 ∙ more (a .s .now) (17 * a .k + l .i) (l .v) (d .result) (d .ensures) (16 - l .i) (16 - (l .i + 1)) (17 * a .k + (l .i + 1)) (omega arith) (omega arith) (c .if2 .left),
     )
 
 returns-3 : tie.Need-returns-3 Inv-loop μ-loop
 returns-3 c =
     let l = c .before .loop in
-    let s = c .before .before .before .before .args .s .now in
-    let k = c .before .before .before .before .args .k in
-    sym (l .inv .1 ∙ done s (17 * k + l .i) (16 - l .i) (l .v) (omega arith))
+    let a = c .before .before .before .before .args in
+    sym (l .inv .1 ∙ done (a .s .now) (17 * a .k + l .i) (16 - l .i) (l .v) (omega arith))
 
 pub word-at-spec : {M : Type 1} → statement M
 word-at-spec =
@@ -75,15 +57,15 @@ word-at-spec =
     Inv-loop
     μ-loop
     returns
-    mul-from
+    (λ c. omega arith)
     loop-holds
-    add-digit
-    shared-slice-read-digit
-    digit-requires
+    (λ c. omega arith)
+    (λ c. omega arith)
+    (λ c κs. tt)
     returns-2
     mul-v
     add-v
-    add-i
-    loop-less
+    (λ c. omega arith)
+    (λ c. omega arith)
     loop-again
     returns-3)

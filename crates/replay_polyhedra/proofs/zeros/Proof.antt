@@ -1,32 +1,15 @@
 -- `replay_polyhedra::zeros` meets its contract. Assumes nothing.
-use mathlib.Core.Path.{sym}
 use native.Mathlib.Omega.{arith}
+use lib.ListN.{length-take}
 use borrow.Author.Needs.{needs}
-use lib.Seq.{length-take-le}
 use Rattle.replay_polyhedra.proofs.zeros.Statement.{statement}
 use Rattle.replay_polyhedra.proofs.zeros.Tie as tie
 
 slice-aggregate-polyhedron : tie.Need-slice-aggregate-polyhedron
-slice-aggregate-polyhedron c = sym (length-take-le (c .before .before .before .before .args .v) (c .before .before .before .doubles-space .result) (omega arith))
+slice-aggregate-polyhedron c = simp length-take (omega arith)
 
 slice-aggregate-polyhedron-2 : tie.Need-slice-aggregate-polyhedron-2
-slice-aggregate-polyhedron-2 c = sym (length-take-le (c .before .before .before .before .before .args .f) (c .before .before .before .indices-space .result) (omega arith))
+slice-aggregate-polyhedron-2 c = simp length-take (omega arith)
 
 pub zeros-spec : {M : Type 1} → statement M
-zeros-spec =
-    tie.close
-    (tie.spec
-    (λ c κs. search needs)
-    (λ c κs. search needs)
-    (λ c κs. search needs)
-    (λ c. search needs)
-    slice-aggregate-polyhedron
-    (λ c. search needs)
-    slice-aggregate-polyhedron-2
-    (λ c. search needs)
-    (λ c κs. search needs)
-    (λ c. search needs)
-    (λ c. search needs)
-    (λ c κs. search needs)
-    (λ c. search needs)
-    (λ c. search needs))
+zeros-spec = tie.close (tie.spec (λ c κs. search needs) (λ c κs. search needs) (λ c κs. search needs) (λ c. search needs) slice-aggregate-polyhedron (λ c. search needs) slice-aggregate-polyhedron-2 (λ c. search needs) (λ c κs. search needs) (λ c. search needs) (λ c. search needs) (λ c κs. search needs) (λ c. search needs) (λ c. search needs))

@@ -13,7 +13,7 @@ returns c =
     let is-finite2 = if2 .before in
     let if1 = is-finite2 .before in
     let is-finite = if1 .before in
-    rw (← is-finite .is-finite .ensures, if1 .if1 .taken, ← is-finite2 .is-finite2 .ensures, if2 .if2 .taken, ← is-finite3 .is-finite3 .ensures, if3 .if3 .taken, ← c .is-finite4 .ensures)
+    simp (← is-finite .is-finite .ensures, if1 .if1 .taken, ← is-finite2 .is-finite2 .ensures, if2 .if2 .taken, ← is-finite3 .is-finite3 .ensures, if3 .if3 .taken, c .is-finite4 .ensures)
 
 returns-2 : tie.Need-returns-2
 unfolding allFinite
@@ -23,7 +23,7 @@ returns-2 c =
     let is-finite2 = if2 .before in
     let if1 = is-finite2 .before in
     let is-finite = if1 .before in
-    rw (← is-finite .is-finite .ensures, if1 .if1 .taken, ← is-finite2 .is-finite2 .ensures, if2 .if2 .taken, ← is-finite3 .is-finite3 .ensures, c .if3 .left)
+    simp (← is-finite .is-finite .ensures, if1 .if1 .taken, ← is-finite2 .is-finite2 .ensures, if2 .if2 .taken, ← is-finite3 .is-finite3 .ensures, c .if3 .left)
 
 returns-3 : tie.Need-returns-3
 unfolding allFinite
@@ -31,11 +31,11 @@ returns-3 c =
     let is-finite2 = c .before in
     let if1 = is-finite2 .before in
     let is-finite = if1 .before in
-    rw (← is-finite .is-finite .ensures, if1 .if1 .taken, ← is-finite2 .is-finite2 .ensures, c .if2 .left)
+    simp (← is-finite .is-finite .ensures, if1 .if1 .taken, ← is-finite2 .is-finite2 .ensures, c .if2 .left)
 
 returns-4 : tie.Need-returns-4
 unfolding allFinite
-returns-4 c = rw (← c .before .is-finite .ensures, c .if1 .left)
+returns-4 c = simp (← c .before .is-finite .ensures, c .if1 .left)
 
 pub all-finite-spec : {M : Type 1} → statement M
 all-finite-spec =

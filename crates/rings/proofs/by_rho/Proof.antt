@@ -6,15 +6,15 @@ use Rattle.rings.proofs.by_rho.Tie as tie
 
 returns : tie.Need-returns
 unfolding ∂ρ
-returns c = rw (c .if1 .taken)
+returns c = simp (c .if1 .taken)
 
 returns-2 : tie.Need-returns-2
 unfolding ∂ρ
-returns-2 c = rw (c .before .before .if1 .left, c .before .if2 .taken, ← c .near-axis .ensures)
+returns-2 c = simp (c .before .before .if1 .left, c .before .if2 .taken, c .near-axis .ensures)
 
 returns-3 : tie.Need-returns-3
 unfolding ∂ρ
-returns-3 c = rw (c .before .before .if1 .left, c .before .if2 .left, ← c .off-axis .ensures)
+returns-3 c = simp (c .before .before .if1 .left, c .before .if2 .left, c .off-axis .ensures)
 
 pub by-rho-spec : {M : Type 1} → statement M
 by-rho-spec = tie.close (tie.spec returns (λ c κs. search needs) returns-2 (λ c κs. search needs) returns-3)

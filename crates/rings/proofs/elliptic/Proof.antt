@@ -10,7 +10,7 @@ returns c =
     let repeat-mean = c .before .before in
     let root2 = repeat-mean .before in
     let root = root2 .before in
-    rw (← root .root .ensures, ← root2 .root2 .ensures, ← repeat-mean .repeat-mean .ensures)
+    simp (root .root .ensures, root2 .root2 .ensures, repeat-mean .repeat-mean .ensures)
 
 pub elliptic-spec : {M : Type 1} → statement M
 elliptic-spec = tie.close (tie.spec (λ c κs. search needs) (λ c κs. search needs) (λ c κs. search needs) returns)

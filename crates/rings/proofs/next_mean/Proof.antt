@@ -6,7 +6,7 @@ use Rattle.rings.proofs.next_mean.Tie as tie
 
 returns : tie.Need-returns
 unfolding nextMean
-returns c = rw (← c .before .root .ensures)
+returns c = simp (c .before .root .ensures)
 
 pub next-mean-spec : {M : Type 1} → statement M
 next-mean-spec = tie.close (tie.spec (λ c κs. search needs) returns)

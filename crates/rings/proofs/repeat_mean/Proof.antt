@@ -1,27 +1,24 @@
--- `rings::repeat_mean` meets its contract. The invariant: the rounds left from here give what all rounds from the start give. Assumes nothing.
-use mathlib.Core.Path.{_≡_, refl, sym, _∙_}
-use Prim.Native.Nat.{_+_, _-_, _≤_}
+-- `rings::repeat_mean` meets its contract. Assumes nothing.
+use mathlib.Core.Path.{refl}
+use Prim.Native.Nat.{_-_}
 use native.Mathlib.Omega.{arith}
 use borrow.Author.Needs.{needs}
-use Rattle.carlson.specs.Rounds.{rounds}
-use Rattle.carlson.specs.RoundLaws.{stop, none-left, one-more, true-of-not, false-of-not}
+use Rattle.carlson.proofs.RoundLoop.{After, none-yet, tested, one-round, all-made}
 use Rattle.rings.specs.Elliptic.{maxMeans, meanTest, nextMean}
 use Rattle.rings.proofs.repeat_mean.Statement.{statement}
 use Rattle.rings.proofs.repeat_mean.Tie as tie
 
 abbrev Inv-loop : tie.InvT-loop
-Inv-loop t₀ n₀ t n = (n ≤ maxMeans) × (rounds meanTest nextMean maxMeans t₀ ≡ rounds meanTest nextMean (maxMeans - n) t)
+Inv-loop t₀ n₀ t n = After meanTest nextMean maxMeans t₀ n t
 
 abbrev μ-loop : tie.MeasureT-loop
 μ-loop t₀ n₀ t n = maxMeans - n
 
 loop-holds : tie.Need-loop-holds Inv-loop μ-loop
-loop-holds c = (search needs, refl)
+loop-holds c = none-yet
 
 returns : tie.Need-returns Inv-loop μ-loop
-returns c =
-    let l = c .before .before .before .loop in
-    sym (l .inv .1 ∙ stop _ _ (maxMeans - l .n) (l .t) (sym (c .before .mean-test .ensures) ∙ false-of-not _ (c .if1 .taken)))
+returns c = tested (c .before .before .before .loop .inv) (c .before .mean-test .ensures) (c .if1 .taken)
 
 add-n : tie.Need-add-n Inv-loop μ-loop
 add-n c = omega arith
@@ -30,16 +27,10 @@ loop-less : tie.Need-loop-less Inv-loop μ-loop
 loop-less c = omega arith
 
 loop-again : tie.Need-loop-again Inv-loop μ-loop
-loop-again c =
-    let l = c .before .before .before .before .loop in (
-      omega arith,
-      l .inv .1
-          ∙ one-more _ _ (maxMeans - l .n) (maxMeans - (l .n + 1)) (l .t) (omega arith) (sym (c .before .before .mean-test .ensures) ∙ true-of-not _ (c .before .if1 .left))
-          ∙ rw (← c .next-mean .ensures),
-    )
+loop-again c = one-round (c .before .before .before .before .loop .inv) (omega arith) (c .before .before .mean-test .ensures) (c .before .if1 .left) (c .next-mean .ensures) refl
 
 returns-2 : tie.Need-returns-2 Inv-loop μ-loop
-returns-2 c = let l = c .before .loop in sym (l .inv .1 ∙ none-left _ _ (maxMeans - l .n) (l .t) (omega arith))
+returns-2 c = all-made (c .before .loop .inv) (omega arith)
 
 pub repeat-mean-spec : {M : Type 1} → statement M
 repeat-mean-spec =

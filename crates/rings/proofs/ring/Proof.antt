@@ -13,7 +13,7 @@ returns c =
     let within-limits2 = if2 .before in
     let if1 = within-limits2 .before in
     let within-limits = if1 .before in
-    rw (← within-limits .within-limits .ensures, if1 .if1 .taken, ← within-limits2 .within-limits2 .ensures, if2 .if2 .taken, ← within-limits3 .within-limits3 .ensures, if3 .if3 .taken, ← c .ring-within .ensures)
+    simp (← within-limits .within-limits .ensures, if1 .if1 .taken, ← within-limits2 .within-limits2 .ensures, if2 .if2 .taken, ← within-limits3 .within-limits3 .ensures, if3 .if3 .taken, c .ring-within .ensures)
 
 returns-2 : tie.Need-returns-2
 unfolding ring
@@ -23,7 +23,7 @@ returns-2 c =
     let within-limits2 = if2 .before in
     let if1 = within-limits2 .before in
     let within-limits = if1 .before in
-    rw (← within-limits .within-limits .ensures, if1 .if1 .taken, ← within-limits2 .within-limits2 .ensures, if2 .if2 .taken, ← within-limits3 .within-limits3 .ensures, c .if3 .left)
+    simp (← within-limits .within-limits .ensures, if1 .if1 .taken, ← within-limits2 .within-limits2 .ensures, if2 .if2 .taken, ← within-limits3 .within-limits3 .ensures, c .if3 .left)
 
 returns-3 : tie.Need-returns-3
 unfolding ring
@@ -31,11 +31,11 @@ returns-3 c =
     let within-limits2 = c .before in
     let if1 = within-limits2 .before in
     let within-limits = if1 .before in
-    rw (← within-limits .within-limits .ensures, if1 .if1 .taken, ← within-limits2 .within-limits2 .ensures, c .if2 .left)
+    simp (← within-limits .within-limits .ensures, if1 .if1 .taken, ← within-limits2 .within-limits2 .ensures, c .if2 .left)
 
 returns-4 : tie.Need-returns-4
 unfolding ring
-returns-4 c = rw (← c .before .within-limits .ensures, c .if1 .left)
+returns-4 c = simp (← c .before .within-limits .ensures, c .if1 .left)
 
 pub ring-spec : {M : Type 1} → statement M
 ring-spec =

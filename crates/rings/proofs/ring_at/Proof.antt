@@ -10,7 +10,7 @@ returns c =
     let by-rho = c .before in
     let root = by-rho .before .before in
     let elliptic = root .before in
-    rw (← elliptic .elliptic .ensures, ← root .root .ensures, ← by-rho .by-rho .ensures)
+    simp (elliptic .elliptic .ensures, root .root .ensures, by-rho .by-rho .ensures)
 
 pub ring-at-spec : {M : Type 1} → statement M
 ring-at-spec = tie.close (tie.spec (λ c κs. search needs) (λ c κs. search needs) (λ c κs. search needs) returns)

@@ -6,9 +6,6 @@ use Rattle.roots.proofs.Trial.{gh-lt, hh-lt, rest-lt, nearest}
 use Rattle.roots.proofs.is_nearest.Statement.{statement}
 use Rattle.roots.proofs.is_nearest.Tie as tie
 
-add-wrapping-sub-u64 : tie.Need-add-wrapping-sub-u64
-add-wrapping-sub-u64 c = search needs
-
 mul-wrapping-sub-u64 : tie.Need-mul-wrapping-sub-u64
 mul-wrapping-sub-u64 c = omega (arith, gh-lt (c .args .f) (c .args .g) (c .args .h) (c .pre .0) (c .pre .1) (c .pre .2))
 
@@ -21,26 +18,20 @@ add-wrapping-sub-u64-2 c = omega (arith, rest-lt (c .args .f) (c .args .g) (c .a
 add-wrapping-sub-u64-3 : tie.Need-add-wrapping-sub-u64-3
 add-wrapping-sub-u64-3 c = omega (arith, rest-lt (c .args .f) (c .args .g) (c .args .h) (c .pre .0) (c .pre .1) (c .pre .2))
 
-wrapping-sub-u64-requires : tie.Need-wrapping-sub-u64-requires
-wrapping-sub-u64-requires c κs = search needs
-
-mul-result : tie.Need-mul-result
-mul-result c = search needs
-
 returns : tie.Need-returns
 returns c =
     let s = c .before in
-    λ t. nearest (s .args .f) (s .args .g) (s .args .h) (s .pre .0) (s .pre .1) (s .pre .2) (c .wrapping-sub-u64 .result) (c .wrapping-sub-u64 .ensures) (ltb-true _ _ t)
+    λ t. nearest (s .args .f) (s .args .g) (s .args .h) (s .pre .0) (s .pre .1) (s .pre .2) (c .wrapping-sub-u64 .result) (c .wrapping-sub-u64 .ensures) (omega (arith, ltb-true))
 
 pub is-nearest-spec : {M : Type 1} → statement M
 is-nearest-spec =
     tie.close
     (tie.spec
-    add-wrapping-sub-u64
+    (λ c. search needs)
     mul-wrapping-sub-u64
     mul-wrapping-sub-u64-2
     add-wrapping-sub-u64-2
     add-wrapping-sub-u64-3
-    wrapping-sub-u64-requires
-    mul-result
+    (λ c κs. search needs)
+    (λ c. search needs)
     returns)

@@ -31,12 +31,9 @@ sub-t11 c = omega (arith, leading-le 64 (c .before .args .b))
 returns : tie.Need-returns
 returns c = subnormal-from (c .before .args .b) (below c)
 
-add-t13 : tie.Need-add-t13
-add-t13 c = search needs
-
 returns-2 : tie.Need-returns-2
 returns-2 c = normal-from (c .before .args .b) (omega arith)
 
 pub normalised-spec : {M : Type 1} → statement M
 normalised-spec =
-    tie.close (tie.spec cast-z sub-z shl-t5 add-t7 add-t10 sub-t11 returns add-t13 returns-2)
+    tie.close (tie.spec cast-z sub-z shl-t5 add-t7 add-t10 sub-t11 returns (λ c. search needs) returns-2)

@@ -14,9 +14,6 @@ add-n c = omega (arith, digits-fit (c .args .b))
 shr-n : tie.Need-shr-n
 shr-n c = shift-lt (c .args .b / 2 ^ 52)
 
-start-of-requires : tie.Need-start-of-requires
-start-of-requires c κs = search needs
-
 tried-requires : tie.Need-tried-requires
 tried-requires c κs = let b = c .before .args .b in (rw (code-scaled b) (n-range _ _ (scaled b) (scaled-of b) .0), c .start-of .ensures)
 
@@ -32,4 +29,4 @@ returns-2 c = let b = c .before .before .before .before .args .b in subst (λ (m
 pub significand-spec : {M : Type 1} → statement M
 significand-spec =
     tie.close
-    (tie.spec add-n shr-n start-of-requires tried-requires returns by-digits-requires returns-2)
+    (tie.spec add-n shr-n (λ c κs. search needs) tried-requires returns by-digits-requires returns-2)

@@ -4,7 +4,7 @@ use denote.Ref.{now}
 use borrow.Author.Needs.{needs}
 use Rattle.newtonian.specs.declared.Vector.{Vector}
 use Rattle.lists.proofs.Numbers.{true≢false}
-use Rattle.polyhedron.specs.Centroid.{radius}
+use Rattle.centroid.specs.Centroid.{radius}
 use Rattle.rows.proofs.center_of.Statement.{statement}
 use Rattle.rows.proofs.center_of.Tie as tie
 

@@ -4,7 +4,8 @@ use mathlib.Core.Bool.{true, false}
 use native.Mathlib.Omega.{arith}
 use borrow.Author.Needs.{needs}
 use Rattle.polyhedron.specs.Polyhedron.{polyhedronAt}
-use Rattle.rows.specs.Row.{isMesh, fieldAt}
+use Rattle.rows.specs.Kinds.{isMesh}
+use Rattle.rows.specs.Row.{fieldAt}
 use Rattle.rows.proofs.field_at.Statement.{statement}
 use Rattle.rows.proofs.field_at.Tie as tie
 

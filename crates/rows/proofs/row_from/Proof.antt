@@ -6,7 +6,7 @@ use Rattle.rows.proofs.row_from.Tie as tie
 
 returns : tie.Need-returns
 unfolding rowFrom
-returns c = rw (← c .before .body-of .ensures, ← c .total-field-of .ensures)
+returns c = simp (c .total-field-of .ensures, c .before .body-of .ensures)
 
 pub row-from-spec : {M : Type 1} → statement M
 row-from-spec = tie.close (tie.spec (λ c κs. search needs) (λ c κs. search needs) returns)

@@ -12,8 +12,7 @@ use Rattle.refusals.specs.Causes.{unless, firstOf}
 use Rattle.layout.specs.LittleEndian.{unpack, doubles}
 use Rattle.mesh.proofs.Scans.{scan-start, scan-more, scan-stop, scan-end}
 use Rattle.sheet_scans.proofs.Read.{double-at}
-use Rattle.mesh.specs.Check.{inLimits}
-use Rattle.mesh.specs.Check.{outOfLimits}
+use Rattle.mesh.specs.Check.{inLimits, outOfLimits}
 use Rattle.doubles.specs.Magnitude.{withinLimits}
 use Rattle.layout.proofs.Lists.{unpack-length}
 use lib.ListN.{length-map}

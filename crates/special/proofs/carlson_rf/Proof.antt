@@ -6,11 +6,11 @@ use Rattle.special.proofs.carlson_rf.Tie as tie
 
 returns : tie.Need-returns
 unfolding carlsonRf
-returns c = rw (← c .before .before .in-domain .ensures, c .before .if1 .taken, ← c .rf .ensures)
+returns c = simp (← c .before .before .in-domain .ensures, c .before .if1 .taken, c .rf .ensures)
 
 returns-2 : tie.Need-returns-2
 unfolding carlsonRf
-returns-2 c = rw (← c .before .in-domain .ensures, c .if1 .left)
+returns-2 c = simp (← c .before .in-domain .ensures, c .if1 .left)
 
 pub carlson-rf-spec : {M : Type 1} → statement M
 carlson-rf-spec = tie.close (tie.spec (λ c κs. search needs) (λ c κs. search needs) returns returns-2)

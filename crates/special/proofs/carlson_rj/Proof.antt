@@ -11,7 +11,7 @@ returns c =
     let is-finite = if2 .before in
     let if1 = is-finite .before in
     let in-domain = if1 .before in
-    rw (← in-domain .in-domain .ensures, if1 .if1 .taken, ← is-finite .is-finite .ensures, if2 .if2 .taken, ← c .rj .ensures)
+    simp (← in-domain .in-domain .ensures, if1 .if1 .taken, ← is-finite .is-finite .ensures, if2 .if2 .taken, c .rj .ensures)
 
 returns-2 : tie.Need-returns-2
 unfolding carlsonRj
@@ -19,11 +19,11 @@ returns-2 c =
     let is-finite = c .before in
     let if1 = is-finite .before in
     let in-domain = if1 .before in
-    rw (← in-domain .in-domain .ensures, if1 .if1 .taken, ← is-finite .is-finite .ensures, c .if2 .left)
+    simp (← in-domain .in-domain .ensures, if1 .if1 .taken, ← is-finite .is-finite .ensures, c .if2 .left)
 
 returns-3 : tie.Need-returns-3
 unfolding carlsonRj
-returns-3 c = rw (← c .before .in-domain .ensures, c .if1 .left)
+returns-3 c = simp (← c .before .in-domain .ensures, c .if1 .left)
 
 pub carlson-rj-spec : {M : Type 1} → statement M
 carlson-rj-spec =

@@ -6,11 +6,11 @@ use Rattle.special.proofs.finite_not_below_zero.Tie as tie
 
 returns : tie.Need-returns
 unfolding finiteNotBelowZero
-returns c = rw (← c .before .is-finite .ensures, c .if1 .taken)
+returns c = simp (← c .before .is-finite .ensures, c .if1 .taken)
 
 returns-2 : tie.Need-returns-2
 unfolding finiteNotBelowZero
-returns-2 c = rw (← c .before .is-finite .ensures, c .if1 .left)
+returns-2 c = simp (← c .before .is-finite .ensures, c .if1 .left)
 
 pub finite-not-below-zero-spec : {M : Type 1} → statement M
 finite-not-below-zero-spec = tie.close (tie.spec (λ c κs. search needs) returns returns-2)

@@ -13,7 +13,7 @@ returns c =
     let finite-not-below-zero2 = if2 .before in
     let if1 = finite-not-below-zero2 .before in
     let finite-not-below-zero = if1 .before in
-    rw (← finite-not-below-zero .finite-not-below-zero .ensures, if1 .if1 .taken, ← finite-not-below-zero2 .finite-not-below-zero2 .ensures, if2 .if2 .taken, ← finite-not-below-zero3 .finite-not-below-zero3 .ensures, if3 .if3 .taken, ← c .more-than-one-zero .ensures)
+    simp (← finite-not-below-zero .finite-not-below-zero .ensures, if1 .if1 .taken, ← finite-not-below-zero2 .finite-not-below-zero2 .ensures, if2 .if2 .taken, ← finite-not-below-zero3 .finite-not-below-zero3 .ensures, if3 .if3 .taken, c .more-than-one-zero .ensures)
 
 returns-2 : tie.Need-returns-2
 unfolding inDomain
@@ -23,7 +23,7 @@ returns-2 c =
     let finite-not-below-zero2 = if2 .before in
     let if1 = finite-not-below-zero2 .before in
     let finite-not-below-zero = if1 .before in
-    rw (← finite-not-below-zero .finite-not-below-zero .ensures, if1 .if1 .taken, ← finite-not-below-zero2 .finite-not-below-zero2 .ensures, if2 .if2 .taken, ← finite-not-below-zero3 .finite-not-below-zero3 .ensures, c .if3 .left)
+    simp (← finite-not-below-zero .finite-not-below-zero .ensures, if1 .if1 .taken, ← finite-not-below-zero2 .finite-not-below-zero2 .ensures, if2 .if2 .taken, ← finite-not-below-zero3 .finite-not-below-zero3 .ensures, c .if3 .left)
 
 returns-3 : tie.Need-returns-3
 unfolding inDomain
@@ -31,11 +31,11 @@ returns-3 c =
     let finite-not-below-zero2 = c .before in
     let if1 = finite-not-below-zero2 .before in
     let finite-not-below-zero = if1 .before in
-    rw (← finite-not-below-zero .finite-not-below-zero .ensures, if1 .if1 .taken, ← finite-not-below-zero2 .finite-not-below-zero2 .ensures, c .if2 .left)
+    simp (← finite-not-below-zero .finite-not-below-zero .ensures, if1 .if1 .taken, ← finite-not-below-zero2 .finite-not-below-zero2 .ensures, c .if2 .left)
 
 returns-4 : tie.Need-returns-4
 unfolding inDomain
-returns-4 c = rw (← c .before .finite-not-below-zero .ensures, c .if1 .left)
+returns-4 c = simp (← c .before .finite-not-below-zero .ensures, c .if1 .left)
 
 pub in-domain-spec : {M : Type 1} → statement M
 in-domain-spec =

@@ -8,7 +8,7 @@ returns : tie.Need-returns
 unfolding addFace
 returns c = simp (
   c .add-terms .ensures,
-  c .before .numbers-of .ensures,
+  c .before .field-numbers .ensures,
   c .before .before .tetrahedron-field .ensures,
   c .before .before .before .over-face .ensures,
   c .before .before .before .before .corner3 .ensures,

@@ -4,7 +4,7 @@ use Rattle.physica.proofs.bodies.physica_check_mesh.Statement.{statemen
 use Rattle.physica.proofs.bodies.physica_check_mesh.Tie as tie
 
 returns : tie.Need-returns
-returns c = rw (← c .before .before .before .before .before .check-mesh .ensures .0) (c .give-volume .ensures .0, (c .give-volume .ensures .1 .0, (c .give-volume .ensures .1 .1, c .before .before .before .before .before .check-mesh .ensures .1)))
+returns c = let at = c .before .before .before .before .before in rw (← at .check-mesh .ensures .0) (c .give-volume .ensures, at .check-mesh .ensures .1)
 
 pub physica-check-mesh-spec : {M : Type 1} → statement M
 physica-check-mesh-spec = tie.close (tie.spec (λ c κs. search needs) (λ c κs. search needs) (λ c. search needs) returns)

@@ -4,7 +4,7 @@ use Rattle.physica.proofs.magnetics.physica_koenigsberger.Statement.{st
 use Rattle.physica.proofs.magnetics.physica_koenigsberger.Tie as tie
 
 returns : tie.Need-returns
-returns c = rw (← c .before .before .before .before .vector-of .ensures, ← c .before .before .before .vector-of2 .ensures, ← c .before .before .koenigsberger .ensures) (c .give-number .ensures)
+returns c = let at = c .before .before in rw (← at .before .before .vector-of .ensures, ← at .before .vector-of2 .ensures, ← at .koenigsberger .ensures) (c .give-number .ensures)
 
 pub physica-koenigsberger-spec : {M : Type 1} → statement M
 physica-koenigsberger-spec = tie.close (tie.spec (λ c κs. search needs) (λ c κs. search needs) (λ c κs. search needs) (λ c κs. search needs) returns)

@@ -4,7 +4,7 @@ use Rattle.physica.proofs.magnetics.physica_magnetisation.Statement.{st
 use Rattle.physica.proofs.magnetics.physica_magnetisation.Tie as tie
 
 returns : tie.Need-returns
-returns c = rw (← c .before .before .before .before .before .vector-of .ensures, ← c .before .before .before .before .vector-of2 .ensures, ← c .before .before .before .hessian-of .ensures, ← c .before .before .magnetisation .ensures) (c .give-vector .ensures)
+returns c = let at = c .before .before in rw (← at .before .before .before .vector-of .ensures, ← at .before .before .vector-of2 .ensures, ← at .before .hessian-of .ensures, ← at .magnetisation .ensures) (c .give-vector .ensures)
 
 pub physica-magnetisation-spec : {M : Type 1} → statement M
 physica-magnetisation-spec = tie.close (tie.spec (λ c κs. search needs) (λ c κs. search needs) (λ c κs. search needs) (λ c κs. search needs) (λ c κs. search needs) returns)

@@ -4,7 +4,7 @@ use Rattle.physica.proofs.magnetics.physica_total_field.Statement.{stat
 use Rattle.physica.proofs.magnetics.physica_total_field.Tie as tie
 
 returns : tie.Need-returns
-returns c = rw (← c .before .before .before .before .vector-of .ensures, ← c .before .before .before .vector-of2 .ensures, ← c .before .before .total-field .ensures) (c .give-number .ensures)
+returns c = let at = c .before .before in rw (← at .before .before .vector-of .ensures, ← at .before .vector-of2 .ensures, ← at .total-field .ensures) (c .give-number .ensures)
 
 pub physica-total-field-spec : {M : Type 1} → statement M
 physica-total-field-spec = tie.close (tie.spec (λ c κs. search needs) (λ c κs. search needs) (λ c κs. search needs) (λ c κs. search needs) returns)

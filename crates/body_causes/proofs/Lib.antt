@@ -1,0 +1,2 @@
+-- Laws of a mesh and of a prism that were checked.
+mod Bodies

@@ -1,0 +1,2 @@
+-- The causes of refusal of a body.
+pub mod BodyChecked

@@ -1,0 +1,102 @@
+-- What is known of the lists of a sheet, once none of the causes 16, 1, 2, 3, 4, 17 and 18 holds. Assumes nothing.
+use mathlib.Core.Path.{_≡_, refl, sym, ap, ap₂, _∙_}
+use mathlib.Core.Bool.{Bool, true, false, _&&_, _||_}
+use mathlib.Core.List.{List}
+use Prim.Native.Nat.{ℕ, _*_, _/_}
+use native.Mathlib.Omega.{arith}
+use lib.Dec.{eqb}
+use lib.Ieee.{Float}
+use lib.ListN.{length}
+use borrow.Author.Tests.{eqb-true}
+use Rattle.refusals.specs.declared.Cause.the-variants.{None}
+use Rattle.refusals.proofs.Causes.{both}
+use Rattle.lists.proofs.Numbers as numbers
+use Rattle.orders.specs.Order.{orderList}
+use Rattle.mesh.specs.Surface.{Body}
+use Rattle.mesh.specs.Check as mesh
+use Rattle.mesh.specs.CauseLaws.{none-vertex}
+use Rattle.rows.specs.Kinds.{isMesh, knownKind}
+use Rattle.sheet.specs.Writer.{noSuchVertex}
+use Rattle.sheet.specs.Checker.{kindIn, verticesIn, facesIn, facesStart, orderStart, matesStart, parse, orderIn, matesIn, wrongOrder, wrongMate}
+use Rattle.sheet.specs.OrderAndMates.{is-order}
+use Rattle.readers.specs.Opened.{Opened}
+use Rattle.sheet.specs.Reading.{faces-length}
+use Rattle.readers.proofs.Parsed.{vertices-length}
+use Rattle.layout.specs.LittleEndian.{unpack, doubles}
+use Rattle.layout.proofs.Lists.{unpack-length}
+use Rattle.body_checks.specs.Stages.{listsCause, Loaded, Ready}
+
+second : (a b : Bool) → (a || b) ≡ true → a ≡ false → b ≡ true
+second true b e z = cc
+second false b e z = e
+
+-- a known kind that is no mesh has two vertices
+two-corners : (kind v f : ℕ) → knownKind kind v f ≡ true → isMesh kind ≡ false → v ≡ 2
+unfolding knownKind isMesh
+two-corners kind v f e z =
+    let t = numbers.both (eqb kind 2) (eqb v 2 && eqb f 0) (second (eqb kind 1) _ e z) .1 in
+    eqb-true v 2 (numbers.both (eqb v 2) (eqb f 0) t .0)
+
+-- the lists, as they are read
+module _ (b : List ℕ) {n : ℕ} where
+  pub vertices-loaded : n ≡ 3 * verticesIn b → doubles (unpack 8 n b 0) ≡ parse b .vertices
+  unfolding parse
+  vertices-loaded e = rw e
+
+  pub faces-loaded : {at : ℕ} → n ≡ 3 * facesIn b → at ≡ facesStart b → unpack 4 n b at ≡ parse b .faces
+  unfolding parse
+  faces-loaded e p = rw (e, p)
+
+  pub order-loaded : {at : ℕ} → n ≡ 3 * facesIn b → at ≡ orderStart b → unpack 4 n b at ≡ orderIn b
+  order-loaded e p = rw (e, p)
+
+module _ (b : List ℕ) (h : Opened b) where
+  body : noSuchVertex (parse b) ≡ None → Body (parse b .vertices) (parse b .faces)
+  unfolding noSuchVertex
+  body e =
+      let n = faces-length b in
+      let m = vertices-length b in
+      let inside = none-vertex (parse b .vertices) (parse b .faces) e in
+      record {
+        faces = record { triples = omega arith; few = omega (arith, h .faces); small = λ i l. omega (arith, inside i l, h .vertices) };
+        inside = inside;
+      }
+
+  ready : noSuchVertex (parse b) ≡ None → Ready b (parse b .vertices) (parse b .faces)
+  ready e = record {
+    opened = h;
+    vertices = refl;
+    faces = refl;
+    body = body e;
+    corners = λ z. omega (arith, vertices-length b, two-corners (kindIn b) (verticesIn b) (facesIn b) (h .known) z);
+  }
+
+  none-order : listsCause b ≡ None → (noSuchVertex (parse b) ≡ None) × (wrongOrder (parse b .faces) (orderIn b) ≡ None)
+  unfolding listsCause
+  none-order e =
+      let q = both (noSuchVertex (parse b)) _ e in
+      (q .0, both (wrongOrder (parse b .faces) (orderIn b)) _ (q .1) .0)
+
+module _ (b : List ℕ) (v : List Float) (f o : List ℕ) (l : Loaded b v f o) (e : listsCause b ≡ None) where
+  pub now-ready : Ready b v f
+  now-ready = rw (l .vertices, l .faces) (ready b (l .opened) (none-order b (l .opened) e .0))
+
+  pub in-order : o ≡ orderList f
+  in-order =
+      let n : length o ≡ length f = ap length (l .order) ∙ unpack-length 4 (3 * facesIn b) b _ ∙ sym (ap length (l .faces) ∙ faces-length b) in
+      is-order f o n (rw (l .faces, l .order) (none-order b (l .opened) e .1)) (now-ready .body .faces)
+
+-- ---- 4, 17 and 18 of the lists as they are read: n is their length, f the faces
+
+module _ (b : List ℕ) {n : ℕ} (e : n ≡ 3 * facesIn b) where
+  pub vertex-is : {at : ℕ} (v : ℕ) → v ≡ verticesIn b → at ≡ facesStart b → mesh.noSuchVertex v (unpack 4 n b at) ≡ noSuchVertex (parse b)
+  unfolding noSuchVertex
+  vertex-is v q p =
+      let third : 3 * verticesIn b / 3 ≡ verticesIn b = omega arith in
+      ap₂ mesh.noSuchVertex (q ∙ sym (ap (λ (k : ℕ). k / 3) (vertices-length b) ∙ third)) (faces-loaded b e p)
+
+  pub order-is : {at : ℕ} (f : List ℕ) → f ≡ parse b .faces → at ≡ orderStart b → wrongOrder f (unpack 4 n b at) ≡ wrongOrder (parse b .faces) (orderIn b)
+  order-is f q p = ap₂ wrongOrder q (order-loaded b e p)
+
+  pub mate-is : {at : ℕ} (f : List ℕ) → f ≡ parse b .faces → at ≡ matesStart b → wrongMate f (unpack 4 n b at) ≡ wrongMate (parse b .faces) (matesIn b)
+  mate-is f q p = ap₂ wrongMate q (rw (e, p))

@@ -1,0 +1,86 @@
+// The causes 3, 4, 17 and 18, then 7 and 8 or 9, and 19, of a sheet that 16, 1 and 2 let through.
+ghost use mathlib.Core.Path.{_≡_};
+ghost use Prim.Native.Nat.{_*_};
+ghost use lib.ListN.{length};
+ghost use Rattle.refusals.specs.declared.Cause.the-variants.{None};
+ghost use Rattle.mesh.specs.Check.{meshOf};
+ghost use Rattle.sheet.specs.Bytes.{volume};
+ghost use Rattle.sheet.specs.Writer.{outOfLimits};
+ghost use Rattle.sheet.specs.Checker.{facesIn, parse, orderIn, solidCause};
+ghost use Rattle.readers.specs.Opened.{Opened};
+ghost use Rattle.body_checks.specs.Stages.{listsCause, volumeCause, Ready};
+use list_scans::read_faces;
+use list_scans::read_order;
+use list_scans::wrong_mate;
+use mesh::Mesh;
+use mesh::surface;
+use newtonian::vector_within_limits;
+use refusals::Cause;
+use refusals::Refusal;
+use sheet_scans::vector_at;
+
+// Cause 3.
+pub fn out_of_limits(sheet: &[u8], verts: &[f64]) -> Cause
+    requires { ⌜ Opened (now sheet) × (now verts ≡ parse (now sheet) .vertices) ⌝ }
+    ensures { λ r. ⌜ r ≡ outOfLimits (parse (now (sheet .entry))) ⌝ }
+{
+    let vertices = mesh::scan::out_of_limits(verts);
+    if let Cause::Refused(r) = vertices {
+        return Cause::Refused(r);
+    }
+    let t = readers::trailer(sheet);
+    if !vector_within_limits(vector_at(sheet, t + 16)) {
+        return Cause::Refused(Refusal::OutOfLimits);
+    }
+    if !vector_within_limits(vector_at(sheet, t + 40)) {
+        return Cause::Refused(Refusal::OutOfLimits);
+    }
+    let n = 3 * (readers::stations(sheet) as usize);
+    sheet_scans::out_of_limits_at(sheet, readers::stations_start(sheet), n)
+}
+
+// The causes 4, 17 and 18. Reads the faces and the order list.
+pub fn lists_cause(sheet: &[u8], faces: &mut [u32], order: &mut [u32]) -> Cause
+    requires { ⌜ Opened (now sheet) × (length (now faces) ≡ 3 * facesIn (now sheet)) × (length (now order) ≡ 3 * facesIn (now sheet)) ⌝ }
+    ensures { λ r. ⌜ r ≡ listsCause (now (sheet .entry)) ⌝ }
+    ensures { λ r. ⌜ (r ≡ None → (now (faces .exit) ≡ parse (now (sheet .entry)) .faces) × (now (order .exit) ≡ orderIn (now (sheet .entry)))) ⌝ }
+{
+    let v = readers::vertices(sheet) as usize;
+    let f = readers::faces(sheet) as usize;
+    let missing = read_faces(sheet, 24 * v, v, faces);
+    if let Cause::Refused(r) = missing {
+        return Cause::Refused(r);
+    }
+    let disorder = read_order(faces, sheet, 24 * v + 12 * f, order);
+    if let Cause::Refused(r) = disorder {
+        return Cause::Refused(r);
+    }
+    wrong_mate(faces, sheet, 24 * v + 24 * f)
+}
+
+// The causes 7 and 8, or 9, or else the volume.
+fn check_solid(sheet: &[u8], verts: &[f64], faces: &[u32]) -> Mesh
+    requires { ⌜ Ready (now sheet) (now verts) (now faces) ⌝ }
+    ensures { λ r. ⌜ r ≡ meshOf (solidCause (parse (now (sheet .entry)))) (volume (parse (now (sheet .entry)))) ⌝ }
+{
+    if rows::kinds::is_mesh(readers::kind(sheet)) {
+        return surface::check_faces(verts, faces);
+    }
+    body_causes::check_prism(verts)
+}
+
+// The causes 7 and 8, or 9, then 19.
+pub fn volume_cause(sheet: &[u8], verts: &[f64], faces: &[u32]) -> Cause
+    requires { ⌜ Ready (now sheet) (now verts) (now faces) ⌝ }
+    ensures { λ r. ⌜ r ≡ volumeCause (now (sheet .entry)) ⌝ }
+{
+    match check_solid(sheet, verts, faces) {
+        Mesh::Refused(r) => Cause::Refused(r),
+        Mesh::Volume(computed) => {
+            if readers::volume_bits(sheet) != doubles::to_bits(computed) {
+                return Cause::Refused(Refusal::WrongVolume);
+            }
+            Cause::None
+        }
+    }
+}

@@ -1,0 +1,2 @@
+-- Bulirsch's general complete elliptic integral.
+pub mod Bulirsch

@@ -1,0 +1,2 @@
+-- The centroid and the radius of a polyhedron.
+pub mod Centroid

@@ -1,0 +1,2 @@
+-- What the scan of the mates tests at a time.
+pub mod Reverses

@@ -1,0 +1,2 @@
+-- Laws that the proofs share, here and in the crates above.
+pub mod Pieces

@@ -1,0 +1,12 @@
+-- `replay::lines::nothing` meets its contract. Assumes nothing.
+use mathlib.Core.Path.{refl}
+use Rattle.replay.specs.Counts.{nothing}
+use Rattle.replay.proofs.lines.nothing.Statement.{statement}
+use Rattle.replay.proofs.lines.nothing.Tie as tie
+
+returns : tie.Need-returns
+unfolding nothing
+returns c = refl
+
+pub nothing-spec : {M : Type 1} → statement M
+nothing-spec = tie.close (tie.spec returns)

@@ -1,0 +1,2 @@
+-- What is compared.
+pub mod Same

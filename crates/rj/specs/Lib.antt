@@ -1,0 +1,2 @@
+-- Carlson's R_J.
+pub mod Rj

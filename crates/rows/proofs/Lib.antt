@@ -1,0 +1,2 @@
+-- Laws of the counts, for the crates above.
+pub mod Counts

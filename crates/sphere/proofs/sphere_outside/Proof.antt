@@ -1,0 +1,27 @@
+-- `sphere::sphere_outside` meets its contract. Assumes nothing.
+use borrow.Author.Needs.{needs}
+use Rattle.sphere.specs.Sphere.{sphereOutside}
+use Rattle.sphere.proofs.sphere_outside.Statement.{statement}
+use Rattle.sphere.proofs.sphere_outside.Tie as tie
+
+returns : tie.Need-returns
+unfolding sphereOutside
+returns c =
+    simp (
+      c .before .before .before .before .before .before .before .root .ensures,
+      c .before .before .before .before .before .before .diagonal .ensures,
+      c .before .before .dipole-row .ensures,
+      c .before .dipole-row2 .ensures,
+      c .dipole-row3 .ensures,
+    )
+
+pub sphere-outside-spec : {M : Type 1} → statement M
+sphere-outside-spec =
+    tie.close
+    (tie.spec
+    (λ c κs. search needs)
+    (λ c κs. search needs)
+    (λ c κs. search needs)
+    (λ c κs. search needs)
+    (λ c κs. search needs)
+    returns)

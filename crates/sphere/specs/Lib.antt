@@ -1,0 +1,2 @@
+-- The magnetic anomaly of a uniformly magnetised sphere.
+pub mod Sphere

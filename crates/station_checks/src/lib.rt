@@ -1,0 +1,63 @@
+// By station: the causes 10 or 11, 13, 20.
+ghost use mathlib.Core.Path.{_≡_};
+ghost use Prim.Native.Nat.{_<_};
+ghost use Rattle.orders.specs.Order.{orderList};
+ghost use Rattle.rows.specs.Known.{CenterOf};
+ghost use Rattle.sheet.specs.Checker.{kindIn, stationsIn, parse, checkStation};
+ghost use Rattle.body_checks.specs.Stages.{stationsCause, Ready};
+use newtonian::Vector;
+use refusals::Cause;
+use refusals::Refusal;
+use rows::Center;
+use rows::RowAnswer;
+use sheet_scans::vector_at;
+
+// Station i, with the magnetisation m and the ambient field a, and the center of a mesh.
+fn station_cause(
+    sheet: &[u8],
+    i: u32,
+    m: Vector,
+    a: Vector,
+    c: Center,
+    verts: &[f64],
+    faces: &[u32],
+) -> Cause
+    requires { ⌜ Ready (now sheet) (now verts) (now faces) × CenterOf (kindIn (now sheet)) c (now verts) (now faces) × (i < stationsIn (now sheet))
+        × (m ≡ parse (now sheet) .magnetisation) × (a ≡ parse (now sheet) .ambient) ⌝ }
+    ensures { λ r. ⌜ r ≡ checkStation (now (sheet .entry)) (parse (now (sheet .entry))) i ⌝ }
+{
+    let kind = readers::kind(sheet);
+    let p = vector_at(sheet, readers::stations_start(sheet) + 24 * (i as usize));
+    let answer = rows::row_at(kind, m, a, i, p, c, verts, faces);
+    let cause = rows::row_cause(kind, i, answer);
+    if let Cause::Refused(r) = cause {
+        return Cause::Refused(r);
+    }
+    if let RowAnswer::At(row) = answer {
+        if sheet_scans::same_row(sheet, readers::row_start(sheet, i), kind, row) {
+            return Cause::None;
+        }
+    }
+    Cause::Refused(Refusal::WrongRow(i))
+}
+
+// The stations in order.
+pub fn stations_cause(sheet: &[u8], verts: &[f64], faces: &[u32], order: &[u32]) -> Cause
+    requires { ⌜ Ready (now sheet) (now verts) (now faces) × (now order ≡ orderList (now faces)) ⌝ }
+    ensures { λ r. ⌜ r ≡ stationsCause (now (sheet .entry)) ⌝ }
+{
+    let c = rows::center_of(readers::kind(sheet), verts, faces, order);
+    let t = readers::trailer(sheet);
+    let m = vector_at(sheet, t + 16);
+    let a = vector_at(sheet, t + 40);
+    let n = readers::stations(sheet);
+    let mut i = 0;
+    while i < n {
+        let cause = station_cause(sheet, i, m, a, c, verts, faces);
+        if let Cause::Refused(r) = cause {
+            return Cause::Refused(r);
+        }
+        i += 1;
+    }
+    Cause::None
+}

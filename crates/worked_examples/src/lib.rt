@@ -1,0 +1,1 @@
+// Worked figures of the magnetic calls. Theorems alone: there is no code.
