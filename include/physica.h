@@ -101,7 +101,7 @@ uint32_t physica_polyhedron(const double station[3], const double *verts, size_t
 /* The field of a uniformly magnetised body from the Hessian (9 numbers, row by row) of its potential. Refusal: 3. */
 uint32_t physica_body(const double hessian[9], const double magnetisation[3], double out[3]);
 
-/* What a total-field magnetometer reads when an anomaly adds to the ambient field. Refusal: 3. */
+/* What a total-field magnetometer reads when an anomaly adds to the ambient field; NaN where both are zero. Refusal: 3. */
 uint32_t physica_total_field(const double ambient[3], const double anomaly[3], double *out);
 
 /* The field at p of a sphere. Domain: radius > 0. Refusals: 3, 14. */
@@ -126,7 +126,8 @@ uint32_t physica_koenigsberger(const double remanent[3], double chi, const doubl
 /* Writes the sheet of a body, kind 1 (a mesh) or kind 2 (a prism: verts are min and max, no faces), and of the stations, three coordinates to each,
    into the front of out. size: the sheet's length in bytes. Refusals: 1, 2, 12, 3, 4, then 5, 6, 7, 8 or 9, then station by station 10 or 11, 13.
    After 10, 11 and 13 the sheet's length in out is zeroed; after every other refusal out is as it was. Bytes of out past the sheet never change.
-   work: as for a mesh above; after 13 too it holds the order list. */
+   work: as for a mesh above; after 13 too it holds the order list. With a magnetisation and an ambient field of zero every row's last number is 0/0,
+   and the first station is refused by 13. */
 uint32_t physica_write_sheet(uint32_t kind, const double *verts, size_t verts_len, const uint32_t *faces, size_t faces_len,
                              const double magnetisation[3], const double ambient[3], const double *stations, size_t stations_len, uint32_t *work,
                              size_t work_len, uint8_t *out, size_t out_len, size_t *size, uint32_t values[2]);

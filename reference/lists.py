@@ -186,11 +186,6 @@ def anomalies():
     return [(name, tuple(a)) for name, asked in calls for a in asked]
 
 
-# to add: LISTS["anomalies"] = anomalies; to CALLS:
-#     "anomalies": ({"body": 1, "total_field": 2, "sphere": 3, "cylinder": 4, "ellipsoid_factors": 5, "magnetisation": 6, "koenigsberger": 7}, 16),
-# to ANSWERS: | {name: 3 for name in CALLS["anomalies"][0]}
-
-
 # ---- meshes: a list of vertices, a list of faces, the length of work
 
 TETRAHEDRON = ([(0, 0, 0), (1, 0, 0), (0, 1, 0), (0, 0, 1)], [(0, 2, 1), (0, 1, 3), (0, 3, 2), (1, 2, 3)])
@@ -260,15 +255,55 @@ def damaged(r, verts, faces):
     return verts, faces
 
 
+def flat(rows):
+    return [x for row in rows for x in row]
+
+
+def hexes(xs):
+    return " ".join("%016x" % bits(float(x)) for x in xs)
+
+
+def body_text(v, f):
+    """A body in a request: the counts, the vertices' numbers, the faces' indices."""
+    return "%d %d %s %s" % (len(v) // 3, len(f) // 3, hexes(v), " ".join(map(str, f)))
+
+
+# work holds this and the entry's number before a call
 WORK = 0xABCD0000
+
+
+def mesh_answers(reference, call, cases):
+    """For each case, the call's own numbers, the vertices' numbers, the faces' indices and the length of work: the refusal's number or 0, the words of the answer or
+    the values of the refusal, and work afterwards. The reference build takes whole vertices and faces and has no work, so 1 and 12 are judged here."""
+    asked, early = [], {}
+    for k, (p, v, f, n) in enumerate(cases):
+        if len(v) % 3 or len(f) % 3:
+            early[k] = 1
+        elif n < len(f):
+            early[k] = 12
+        else:
+            asked += [" ".join([call] + [hexes(p)] * bool(p) + [body_text(v, f)]), "order_list " + body_text(v, f)]
+    out = iter(subprocess.run([reference], input="\n".join(asked) + "\n", capture_output=True, text=True, check=True).stdout.splitlines())
+    for k, (_, _, f, n) in enumerate(cases):
+        number, words, work = early.get(k, 0), [], [WORK + i for i in range(n)]
+        if k not in early:
+            kind, *words = next(out).split()
+            order = next(out).split()[1:]
+            if kind == "refused":
+                number, *words = [int(w) for w in words]
+            else:
+                assert kind == "ok", words
+                words = [0x7FF8000000000000 if w == "nan" else int(w, 16) for w in words]
+            if number in (0, 5, 6, 7, 8, 11):
+                work[:len(f)] = [int(w) for w in order]
+        yield number, words, work
 
 
 def meshes(reference):
     """Each mesh: the lengths of the three lists; the vertices' numbers; the faces' indices; the answer, its number (0 for a volume) and two values; work afterwards."""
     r = random.Random(1797)
-    cases = [(list(sum(v, ())), list(sum(f, ())), len(f) * 3) for v, f in (TETRAHEDRON, OCTAHEDRON, CUBE)]
+    cases = [(flat(v), flat(f), len(f) * 3) for v, f in (TETRAHEDRON, OCTAHEDRON, CUBE)]
     v, f = TETRAHEDRON
-    flat = lambda rows: [x for row in rows for x in row]
     cases += [(flat(v), flat((a, c, b) for a, b, c in f), 12), (flat(v), flat(f[:3]), 12), (flat(v), flat(f[:3] + [(1, 3, 2)]), 12), (flat(v), [0, 0, 1], 12), (flat(v), [], 0), ([], [], 0), ([], [0, 0, 0], 3)]
     while len(cases) < 420:
         v, f = damaged(r, *closed_mesh(r))
@@ -280,27 +315,9 @@ def meshes(reference):
         elif lengths == 1:
             f = f[:-r.randrange(1, 3)]
         cases.append((v, f, n))
-    asked, early = [], {}
-    for k, (v, f, n) in enumerate(cases):
-        if len(v) % 3 or len(f) % 3:
-            early[k] = [1]
-        elif n < len(f):
-            early[k] = [12]
-        else:
-            body = "%d %d %s %s" % (len(v) // 3, len(f) // 3, " ".join("%016x" % bits(float(x)) for x in v), " ".join(map(str, f)))
-            asked += ["check_mesh " + body, "order_list " + body]
-    out = iter(subprocess.run([reference], input="\n".join(asked) + "\n", capture_output=True, text=True, check=True).stdout.splitlines())
-    for k, (v, f, n) in enumerate(cases):
-        work = [WORK + i for i in range(n)]
-        if k in early:
-            answer = early[k]
-        else:
-            kind, *words = next(out).split()
-            order = next(out).split()
-            answer = [0, int(words[0], 16)] if kind == "ok" else [int(w) for w in words]
-            if answer[0] in (0, 5, 6, 7, 8):
-                work[:len(f)] = [int(w) for w in order[1:]]
-        answer = (answer + [0, 0])[:3]
+    cases = [([], v, f, n) for v, f, n in cases]
+    for (_, v, f, n), (number, words, work) in zip(cases, mesh_answers(reference, "check_mesh", cases)):
+        answer = ([number] + words + [0, 0])[:3]
         yield ["%016x" % w for w in [len(v), len(f), n] + [bits(float(x)) for x in v] + list(f) + answer + work]
 
 
@@ -445,12 +462,11 @@ def stations(r, verts, faces):
 
 def hand_over(reference):
     """T from (4, ¼, ¼) has the edge and face sums, from (5, ¼, ¼) the tetrahedra; in each case the other differs."""
-    v, f = TETRAHEDRON
-    body = "4 4 %s %s" % (" ".join("%016x" % bits(float(x)) for p in v for x in p), " ".join(str(i) for t in f for i in t))
+    body = body_text(*map(flat, TETRAHEDRON))
     asked = []
     for x in (4.0, 5.0):
-        p = " ".join("%016x" % bits(a) for a in (x, 0.25, 0.25))
-        asked += ["polyhedron %s %s" % (p, body), "edge_face_sums %s %s" % (p, body), "tetrahedra %s %s %s" % (p, body, " ".join(["%016x" % bits(0.25)] * 3))]
+        p = hexes((x, 0.25, 0.25))
+        asked += ["polyhedron %s %s" % (p, body), "edge_face_sums %s %s" % (p, body), "tetrahedra %s %s %s" % (p, body, hexes([0.25] * 3))]
     out = subprocess.run([reference], input="\n".join(asked) + "\n", capture_output=True, text=True, check=True).stdout.splitlines()
     assert out[0] == out[1] != out[2] and out[3] == out[5] != out[4]
 
@@ -459,7 +475,6 @@ def polyhedra(reference):
     """Each line: the lengths of the vertex list, the face list and work; the station; the two lists; thirteen numbers, or a refusal with its two values; work afterwards."""
     r = random.Random(1997)
     hand_over(reference)
-    flat = lambda rows: [x for row in rows for x in row]
     cases = [((x, 0.25, 0.25), *TETRAHEDRON, 0) for x in (4.0, 5.0)]
     # closed bodies, with every kind of station; those with faces of a cube have inner diagonals
     for k in range(24):
@@ -488,35 +503,11 @@ def polyhedra(reference):
         cases.append((tuple(r.uniform(-3, 3) for _ in range(3)) if r.randrange(8) else (0.0, 2e9, 0.0), *body, r.choice((0, 0, 0, 1, 5, -1 if body[1] else 0))))
     cases = [(p, flat(v), flat(f), len(f) * 3 + more) for p, v, f, more in cases]
     cases += [(p, v[:len(v) - a], f[:len(f) - b], n) for p, v, f, n in cases[:3] for a, b in ((1, 0), (2, 0), (0, 1), (0, 2), (1, 1))]
-    asked, early = [], {}
-    for k, (p, v, f, n) in enumerate(cases):
-        if len(v) % 3 or len(f) % 3:
-            early[k] = [1]
-        elif n < len(f):
-            early[k] = [12]
-        else:
-            body = "%d %d %s %s" % (len(v) // 3, len(f) // 3, " ".join("%016x" % bits(float(x)) for x in v), " ".join(map(str, f)))
-            asked += ["polyhedron %s %s" % (" ".join("%016x" % bits(float(x)) for x in p), body), "order_list " + body]
-    out = iter(subprocess.run([reference], input="\n".join(asked) + "\n", capture_output=True, text=True, check=True).stdout.splitlines())
     met = set()
-    for k, (p, v, f, n) in enumerate(cases):
-        work = [WORK + i for i in range(n)]
-        number = 0
-        if k in early:
-            number, answer = early[k][0], []
-        else:
-            kind, *words = next(out).split()
-            order = next(out).split()
-            if kind == "refused":
-                number, *answer = [int(w) for w in words]
-            else:
-                assert kind == "ok", words
-                answer = [0x7FF8000000000000 if w == "nan" else int(w, 16) for w in words]
-            if number in (0, 5, 6, 7, 8, 11):
-                work[:len(f)] = [int(w) for w in order[1:]]
+    for (p, v, f, n), (number, words, work) in zip(cases, mesh_answers(reference, "polyhedron", cases)):
         met.add(number)
-        answer = answer if number == 0 else ([INFINITY + number] + answer + [0] * 13)[:13]
-        yield ["%016x" % w for w in [len(v), len(f), n] + [bits(float(x)) for x in p] + [bits(float(x)) for x in v] + list(f) + answer + work]
+        answer = words if number == 0 else ([INFINITY + number] + words + [0] * 13)[:13]
+        yield ["%016x" % w for w in [len(v), len(f), n] + [bits(float(x)) for x in [*p, *v]] + list(f) + answer + work]
     assert met == {0, 1, 3, 4, 5, 6, 7, 8, 11, 12}
 
 
@@ -527,7 +518,6 @@ CALLS = {
     "special": ({"rf": 1, "rd": 2, "rj": 3, "complete_elliptic": 4, "cel": 5, "ring": 6}, 4),
     "anomalies": ({"body": 1, "total_field": 2, "sphere": 3, "cylinder": 4, "ellipsoid_factors": 5, "magnetisation": 6, "koenigsberger": 7}, 16),
 }
-
 
 # how many numbers an answer has on its line, where more than one
 ANSWERS = {"prism": 13} | {name: 3 for name in CALLS["special"][0]} | {name: 3 for name in CALLS["anomalies"][0]}

@@ -2,15 +2,15 @@
 """sheets.py REFERENCE NAME: writes sheets made from document 01's text and the reference build's answers, not by the writer, to standard output.
 
 NAME is `tetrahedron N` (the sheet of the tetrahedron T with N = 0 or 2 stations), `written` (sheets of both kinds, each after its length), `flips` (two sheets
-to flip bits in, likewise), or `damaged` (sheets that the
-checker refuses, each after its length, the refusal's number and its place; those of 2 are long, and the program makes them itself). Lengths, numbers and places are little-endian in 4 bytes. Seeds are fixed, so a list is the same each time.
+to flip bits in, likewise), or `damaged` (sheets that the checker refuses, each after its length, the refusal's number and its place; those of 2 are long, and the
+program makes them itself). Lengths, numbers and places are little-endian in 4 bytes. Seeds are fixed, so a list is the same each time.
 """
 import random
 import struct
 import subprocess
 import sys
 
-from lists import CUBE, OCTAHEDRON, TETRAHEDRON, bits, closed_mesh
+from lists import CUBE, OCTAHEDRON, TETRAHEDRON, bits, body_text, closed_mesh, flat, hexes
 
 
 def order_list(faces):
@@ -34,10 +34,8 @@ class Reference:
 
     def rows(self, kind, verts, faces, magnetisation, ambient, stations):
         """The rows as 64-bit patterns; a refusal ends the program."""
-        hexes = lambda xs: " ".join("%016x" % bits(float(x)) for x in xs)
-        flat = [x for v in verts for x in v]
-        body = "%d %d %s %s" % (len(verts), len(faces), hexes(flat), " ".join(str(i) for f in faces for i in f))
-        ask = [("polyhedron %s %s" % (hexes(p), body)) if kind == 1 else ("prism %s %s" % (hexes(p), hexes(flat))) for p in stations]
+        body = "polyhedron %%s %s" % body_text(flat(verts), flat(faces)) if kind == 1 else "prism %%s %s" % hexes(flat(verts))
+        ask = [body % hexes(p) for p in stations]
         fields = [line.split() for line in self.ask(ask)]
         assert all(f[0] == "ok" for f in fields), fields
         anomalies = [line.split() for line in self.ask("inner body %s %s" % (" ".join(f[5:14]), hexes(magnetisation)) for f in fields)]
@@ -50,8 +48,7 @@ class Reference:
         if kind == 2:
             (a, b, c), (d, e, f) = verts
             return bits((float(d) - float(a)) * (float(e) - float(b)) * (float(f) - float(c)))
-        flat = " ".join("%016x" % bits(float(x)) for v in verts for x in v)
-        answer = self.ask(["check_mesh %d %d %s %s" % (len(verts), len(faces), flat, " ".join(str(i) for f in faces for i in f))])[0].split()
+        answer = self.ask(["check_mesh " + body_text(flat(verts), flat(faces))])[0].split()
         assert answer[0] == "ok", answer
         return int(answer[1], 16)
 
@@ -107,8 +104,7 @@ def ref_closed(ref, kind, verts, faces):
     """The mesh is accepted (a closed mesh that was shaken may be inverted)."""
     if kind == 2:
         return True
-    flat = " ".join("%016x" % bits(float(x)) for v in verts for x in v)
-    return ref.ask(["check_mesh %d %d %s %s" % (len(verts), len(faces), flat, " ".join(str(i) for f in faces for i in f))])[0].startswith("ok")
+    return ref.ask(["check_mesh " + body_text(flat(verts), flat(faces))])[0].startswith("ok")
 
 
 def bipyramid(n):

@@ -194,7 +194,7 @@ pub fn body(hessian: Matrix, magnetisation: Vector) -> Result<Vector, Refusal> {
     answer(n, out)
 }
 
-/// What a total-field magnetometer reads (T) when an anomaly adds to the ambient field. Refused by 3.
+/// What a total-field magnetometer reads (T) when an anomaly adds to the ambient field; NaN where both are zero. Refused by 3.
 ///
 /// ```
 /// assert_eq!(physica::total_field([0.0; 3], [3.0, 4.0, 0.0]), Ok(5.0));

@@ -1,5 +1,5 @@
 //! bench [TURNS]: times each call here and in the reference build, on the same inputs in one program, and prints a table: call, inputs, nanoseconds a call,
-//! ratio. A time is the best of TURNS turns (default 30), taken in alternation.
+//! ratio; then what checking a sheet takes against the fields of its stations. A time is the best of TURNS turns (default 30), taken in alternation.
 use both::*;
 use geopotential::{bodies, gauss_legendre, special};
 use magnetics::anomaly;
@@ -198,6 +198,47 @@ fn sheets(b: &Bench, r: &mut Random) {
     }
 }
 
+/// The best time of each part, in seconds, taken in alternation.
+fn best_of(turns: usize, parts: [&dyn Fn(); 3]) -> [f64; 3] {
+    let round = |f: &dyn Fn(), reps: usize| {
+        let t = Instant::now();
+        (0..reps).for_each(|_| f());
+        t.elapsed().as_secs_f64() / reps as f64
+    };
+    let reps = parts.map(|f| (2e-3 / round(f, 1).max(1e-7)).ceil() as usize);
+    let mut best = [f64::MAX; 3];
+    for _ in 0..turns {
+        for k in 0..3 {
+            best[k] = best[k].min(round(parts[k], reps[k]));
+        }
+    }
+    best
+}
+
+/// What checking a mesh sheet takes, against the fields of its stations near the body: a field is `polyhedron` less `check_mesh`.
+fn checking(turns: usize) {
+    println!("\n| sheet | check_sheet | its fields | ratio |\n|---|---|---|---|");
+    for (n, count) in [(3, 1), (3, 8), (9, 1), (9, 2), (17, 1), (17, 2), (65, 1), (65, 2)] {
+        let m = sphere(n);
+        let v = points(&m.verts);
+        let body = physica::Body::Mesh { verts: &v, faces: m.faces.as_chunks::<3>().0 };
+        let p = [1.1, 0.9, 1.2];
+        let sheet = physica::write_sheet(body, [1.0, 2.0, -2.0], [2e-5, 0.0, 4.5e-5], &vec![p; count]).unwrap();
+        let work = std::cell::RefCell::new(vec![0; m.room]);
+        let times = best_of(turns, [
+            &|| assert!(physica::check_sheet(black_box(&sheet)).is_ok()),
+            &|| polyhedron(&p, &m, &work),
+            &|| {
+                let (mut out, mut values, mut w) = (0.0, [0; 2], work.borrow_mut());
+                assert_eq!(unsafe { ffi::physica_check_mesh(m.verts.as_ptr(), m.verts.len(), m.faces.as_ptr(), m.faces.len(), w.as_mut_ptr(), w.len(), &mut out, &mut values) }, 0);
+                black_box(out);
+            },
+        ]);
+        let fields = count as f64 * (times[1] - times[2]);
+        println!("| {} faces, {count} near | {} | {} | {:.3} |", m.faces.len() / 3, nanoseconds(times[0] * 1e9), nanoseconds(fields * 1e9), times[0] / fields);
+    }
+}
+
 fn main() {
     let turns = std::env::args().nth(1).map_or(30, |w| w.parse().expect("TURNS is a whole number"));
     start();
@@ -208,4 +249,5 @@ fn main() {
     meshes(&b, &mut r);
     magnetic(&b, &mut r);
     sheets(&b, &mut r);
+    checking(turns);
 }

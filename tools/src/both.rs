@@ -3,12 +3,15 @@ use geopotential::bodies::{self, MeshError};
 use geopotential::{gauss_legendre, special};
 use magnetics::anomaly;
 use physica::ffi;
+use std::collections::HashMap;
 use std::panic::{catch_unwind, AssertUnwindSafe};
 
 /// What a lent number holds before a call; a refusal leaves it.
 pub const BEFORE: f64 = -12345.678;
 pub const BEFORE_WORK: u32 = 0xdead_beef;
 pub const BEFORE_OUT: u8 = 0xa5;
+const BEFORE_SIZE: usize = 7777;
+const BEFORE_VALUES: [u32; 2] = [9; 2];
 
 pub type V3 = [f64; 3];
 pub type M3 = [[f64; 3]; 3];
@@ -138,14 +141,11 @@ pub const CALLS: [Call; 15] = [
             reference(first(&[unless(all_within(a), 3), unless(domain, 14)]), || { let (v, [x, y]) = special::ring(r, rho, z); [v, x, y] })
         } },
     Call { name: "prism", takes: 9, here: |a| {
-            let (mut out, mut values) = ([BEFORE; 13], [9; 2]);
+            let (mut out, mut values) = ([BEFORE; 13], BEFORE_VALUES);
             let n = unsafe { ffi::physica_prism(&v3(a), &v3(&a[3..]), &v3(&a[6..]), &mut out, &mut values) };
             Answer::numbers(n, values, &out)
         },
-        reference: |a| {
-            let sides = (3..6).all(|i| !(a[i + 3] - a[i] < 1e-6));
-            reference(first(&[unless(all_within(a), 3), unless(sides, 9)]), || field(bodies::prism(v3(a), v3(&a[3..]), v3(&a[6..]))))
-        } },
+        reference: |a| reference(first(&[unless(all_within(a), 3), unless(prism_sides(&a[3..]), 9)]), || field(bodies::prism(v3(a), v3(&a[3..]), v3(&a[6..])))) },
     Call { name: "body", takes: 12, here: |a| some(|o| unsafe { ffi::physica_body(&nine(a), &v3(&a[9..]), o) }),
         reference: |a| reference(unless(all_within(a), 3), || anomaly::body(m3(a), v3(&a[9..]))) },
     Call { name: "total_field", takes: 6, here: |a| one(|o| unsafe { ffi::physica_total_field(&v3(a), &v3(&a[3..]), o) }),
@@ -200,11 +200,15 @@ pub fn corners(faces: &[u32]) -> Vec<[usize; 3]> {
     faces.chunks_exact(3).map(|f| [f[0] as usize, f[1] as usize, f[2] as usize]).collect()
 }
 
+/// The edge, from and to, of use number u.
+fn edge(faces: &[u32], u: usize) -> (u32, u32) {
+    (faces[u], faces[if u % 3 == 2 { u - 2 } else { u + 1 }])
+}
+
 /// All edge uses by from, to, use number.
 pub fn order_list(faces: &[u32]) -> Vec<u32> {
-    let to = |u: usize| if u % 3 == 2 { u - 2 } else { u + 1 };
     let mut o: Vec<u32> = (0..faces.len() as u32).collect();
-    o.sort_by_key(|&u| (faces[u as usize], faces[to(u as usize)], u));
+    o.sort_by_key(|&u| (edge(faces, u as usize), u));
     o
 }
 
@@ -239,7 +243,7 @@ fn work_after(number: u32, faces: &[u32], room: usize) -> Vec<u32> {
 }
 
 pub fn mesh_here(m: &Mesh) -> Answer {
-    let (mut work, mut out, mut values) = (vec![BEFORE_WORK; m.room], BEFORE, [9; 2]);
+    let (mut work, mut out, mut values) = (vec![BEFORE_WORK; m.room], BEFORE, BEFORE_VALUES);
     let n = unsafe {
         ffi::physica_check_mesh(m.verts.as_ptr(), m.verts.len(), m.faces.as_ptr(), m.faces.len(), work.as_mut_ptr(), work.len(), &mut out, &mut values)
     };
@@ -258,7 +262,7 @@ pub fn mesh_reference(m: &Mesh) -> Answer {
 }
 
 pub fn polyhedron_here(p: V3, m: &Mesh) -> Answer {
-    let (mut work, mut out, mut values) = (vec![BEFORE_WORK; m.room], [BEFORE; 13], [9; 2]);
+    let (mut work, mut out, mut values) = (vec![BEFORE_WORK; m.room], [BEFORE; 13], BEFORE_VALUES);
     let n = unsafe {
         ffi::physica_polyhedron(&p, m.verts.as_ptr(), m.verts.len(), m.faces.as_ptr(), m.faces.len(), work.as_mut_ptr(), work.len(), &mut out, &mut values)
     };
@@ -327,9 +331,9 @@ fn put_u32(out: &mut Vec<u8>, xs: &[u32]) {
 
 /// For each edge use the use that is its reverse; `u32::MAX` where there is none.
 pub fn mates(faces: &[u32]) -> Vec<u32> {
-    let to = |u: usize| if u % 3 == 2 { u - 2 } else { u + 1 };
-    let uses: std::collections::HashMap<(u32, u32), u32> = (0..faces.len()).map(|u| ((faces[u], faces[to(u)]), u as u32)).collect();
-    (0..faces.len()).map(|u| uses.get(&(faces[to(u)], faces[u])).copied().unwrap_or(u32::MAX)).collect()
+    let uses: HashMap<(u32, u32), u32> = (0..faces.len()).map(|u| (edge(faces, u), u as u32)).collect();
+    let reverse = |(from, to)| uses.get(&(to, from)).copied();
+    (0..faces.len()).map(|u| reverse(edge(faces, u)).unwrap_or(u32::MAX)).collect()
 }
 
 /// The bytes of a sheet with these rows and this volume.
@@ -356,7 +360,7 @@ pub fn sheet_length(v: usize, f: usize, n: usize) -> usize {
 
 pub fn write_here(s: &Sheet) -> Answer {
     let m = &s.mesh;
-    let (mut work, mut out, mut size, mut values) = (vec![BEFORE_WORK; m.room], vec![BEFORE_OUT; s.room], 7777, [9; 2]);
+    let (mut work, mut out, mut size, mut values) = (vec![BEFORE_WORK; m.room], vec![BEFORE_OUT; s.room], BEFORE_SIZE, BEFORE_VALUES);
     let n = unsafe {
         ffi::physica_write_sheet(
             s.kind, m.verts.as_ptr(), m.verts.len(), m.faces.as_ptr(), m.faces.len(), &s.magnetisation, &s.ambient, s.stations.as_ptr(), s.stations.len(),
@@ -405,7 +409,7 @@ pub fn write_reference(s: &Sheet) -> Answer {
             if [10, 11, 13].contains(&n) {
                 out[..length].fill(0);
             }
-            (n, values, 7777)
+            (n, values, BEFORE_SIZE as u64)
         }
     };
     Answer { number, values, numbers: vec![size], work: work_after(number, &s.mesh.faces, s.mesh.room), out }
@@ -413,7 +417,7 @@ pub fn write_reference(s: &Sheet) -> Answer {
 
 /// The verdict, then what the readers give: the rows' length, row `i` and the bytes of all rows.
 pub fn check_here(sheet: &[u8], i: usize) -> Answer {
-    let (mut found, mut values, mut row) = ([7; 2], [9; 2], [BEFORE; 8]);
+    let (mut found, mut values, mut row) = ([7; 2], BEFORE_VALUES, [BEFORE; 8]);
     let n = unsafe { ffi::physica_check_sheet(sheet.as_ptr(), sheet.len(), &mut found, &mut values) };
     let length = unsafe { ffi::physica_sheet_rows(sheet.as_ptr(), sheet.len()) };
     let got = unsafe { ffi::physica_sheet_row(sheet.as_ptr(), sheet.len(), i, &mut row) };

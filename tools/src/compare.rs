@@ -239,7 +239,7 @@ fn station(r: &mut Random, verts: &[f64], faces: &[u32]) -> V3 {
 
 fn sheet(r: &mut Random) -> Sheet {
     let prismatic = r.chance(3);
-    let (kind, mesh) = if prismatic {
+    let (kind, body) = if prismatic {
         let a = prism(r);
         (2, Mesh { verts: a[3..].to_vec(), faces: vec![], room: r.below(3) })
     } else {
@@ -251,27 +251,24 @@ fn sheet(r: &mut Random) -> Sheet {
     let mut stations = Vec::new();
     for _ in 0..r.pick(&[0, 1, 1, 2, 3]) {
         let far = r.chance(3);
-        let p = station(r, &mesh.verts, &mesh.faces);
+        let p = station(r, &body.verts, &body.faces);
         // far from what makes a row infinite, most of the time
         stations.extend(p.map(|x| if far || r.chance(2) { x } else { x * 1.37 + 0.011 }));
     }
     let mut vector = || -> V3 { core::array::from_fn(|_| if r.chance(24) { number(r) } else { r.between(-5.0, 5.0) * r.pick(&[1.0, 1e-5, 1e4]) }) };
     let (magnetisation, ambient) = (vector(), vector());
-    let room = sheet_length(mesh.verts.len() / 3, mesh.faces.len() / 3, stations.len() / 3) + r.below(9);
-    let mut s = Sheet { kind, mesh, magnetisation, ambient, stations, room };
+    let room = sheet_length(body.verts.len() / 3, body.faces.len() / 3, stations.len() / 3) + r.below(9);
+    let mut s = Sheet { kind, mesh: body, magnetisation, ambient, stations, room };
     match r.below(24) {
         0 => s.kind = r.pick(&[0, 1, 2, 3, u32::MAX]),
         1 => { s.stations.pop(); }
         2 => s.room = s.room.saturating_sub(9 + r.below(20)),
-        3 => { let m = mesh_of(r); s.room += 24 * 99 + 36 * 200; s.mesh = m; s.kind = 1; }
+        3 => { s.mesh = mesh(r); s.room += 24 * 99 + 36 * 200; s.kind = 1; }
         4 => { if let Some(x) = s.stations.last_mut() { *x = number(r); } }
         5 => s.mesh.room = s.mesh.room.saturating_sub(1 + r.below(4)),
         _ => {}
     }
     s
-}
-fn mesh_of(r: &mut Random) -> Mesh {
-    mesh(r)
 }
 
 /// A change in some part of a sheet, or none.
