@@ -30,13 +30,17 @@ returns c =
     let s : surfaceCause v f ≡ Refused r = ap (λ (d : Cause). orElse d (orderCause v f (orderList f))) e in
     (sym (ap (λ (d : Cause). meshOf d (volume v f)) s), sym (ap (λ (d : Cause). workAfter d f w) s ∙ work-early f w r (early-vertex (vertexCount v) f r e)))
 
+-- where the call begins
+abbrev start : tie.After-enum-told → tie.Start
+start c = c .before .before .before .before .before .before
+
 -- no corner without a vertex
-named : (c : tie.After-enum-told) → noSuchVertex (vertexCount (now (c .before .before .before .before .before .before .args .verts))) (now (c .before .before .before .before .before .before .args .faces)) ≡ None
+named : (c : tie.After-enum-told) → noSuchVertex (vertexCount (now (start c .args .verts))) (now (start c .args .faces)) ≡ None
 named c = sym (c .before .before .no-such-vertex .ensures) ∙ c .enum-told .given .1
 
 by-size-requires : tie.Need-by-size-requires
 by-size-requires c κs =
-    let st = c .before .before .before .before .before .before .before in
+    let st = start (c .before) in
     let v = now (st .args .verts) in
     let f = now (st .args .faces) in
     let w = now (st .args .work) in
@@ -45,7 +49,7 @@ by-size-requires c κs =
 returns-2 : tie.Need-returns-2
 unfolding surfaceCause orderCause
 returns-2 c =
-    let st = c .before .before .before .before .before .before .before .before .before .before in
+    let st = start (c .before .before .before .before) in
     let v = now (st .args .verts) in
     let f = now (st .args .faces) in
     let w = now (st .args .work) in
@@ -63,8 +67,8 @@ check-surface-spec =
     (λ c. search needs)
     returns
     (λ c. search needs)
-    (λ c. omega (arith, c .before .before .before .before .before .before .pre .room))
-    (λ c. let st = c .before .before .before .before .before .before .before in sym (length-take-le (length (now (st .args .faces))) (now (st .args .work)) (st .pre .room)))
+    (λ c. omega (arith, start c .pre .room))
+    (λ c. let st = start (c .before) in sym (length-take-le (length (now (st .args .faces))) (now (st .args .work)) (st .pre .room)))
     by-size-requires
     (λ c. search needs)
     returns-2)

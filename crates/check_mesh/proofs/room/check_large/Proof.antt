@@ -9,11 +9,15 @@ use Rattle.mesh.specs.Surface.{vertexCount}
 use Rattle.check_mesh.proofs.room.check_large.Statement.{statement}
 use Rattle.check_mesh.proofs.room.check_large.Tie as tie
 
-vertices : (c : tie.After-counters) → length (take (vertexCount (now (c .before .before .before .before .args .verts))) (c .counters .result)) ≡ vertexCount (now (c .before .before .before .before .args .verts))
-vertices c = let st = c .before .before .before .before in length-take-le (vertexCount (now (st .args .verts))) (c .counters .result) (omega (arith, c .counters .ensures, st .pre .2))
+-- where the call begins
+abbrev start : tie.After-counters → tie.Start
+start c = c .before .before .before .before
 
-uses : (c : tie.After-room) → length (take (length (now (c .before .before .before .before .before .args .faces))) (c .room .result)) ≡ length (now (c .before .before .before .before .before .args .faces))
-uses c = let st = c .before .before .before .before .before in length-take-le (length (now (st .args .faces))) (c .room .result) (omega (arith, c .room .ensures, st .pre .0 .faces .few))
+vertices : (c : tie.After-counters) → length (take (vertexCount (now (start c .args .verts))) (c .counters .result)) ≡ vertexCount (now (start c .args .verts))
+vertices c = let st = start c in length-take-le (vertexCount (now (st .args .verts))) (c .counters .result) (omega (arith, c .counters .ensures, st .pre .2))
+
+uses : (c : tie.After-room) → length (take (length (now (start (c .before) .args .faces))) (c .room .result)) ≡ length (now (start (c .before) .args .faces))
+uses c = let st = start (c .before) in length-take-le (length (now (st .args .faces))) (c .room .result) (omega (arith, c .room .ensures, st .pre .0 .faces .few))
 
 pub check-large-spec : {M : Type 1} → statement M
 check-large-spec =
@@ -23,8 +27,8 @@ check-large-spec =
     (λ c κs. search needs)
     (λ c. search needs)
     (λ c. sym (vertices (c .before .before)))
-    (λ c. omega (arith, c .before .room .ensures, c .before .before .before .before .before .before .pre .0 .faces .few))
+    (λ c. omega (arith, c .before .room .ensures, start (c .before .before) .pre .0 .faces .few))
     (λ c. sym (uses (c .before .before)))
-    (λ c κs. let st = c .before .before .before .before .before .before .before .before in (st .pre .0, vertices (c .before .before .before .before), uses (c .before .before .before), st .pre .1))
+    (λ c κs. let st = start (c .before .before .before .before) in (st .pre .0, vertices (c .before .before .before .before), uses (c .before .before .before), st .pre .1))
     (λ c. search needs)
     (λ c. search needs))

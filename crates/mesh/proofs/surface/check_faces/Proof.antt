@@ -25,12 +25,17 @@ loop-holds c =
     let f = now (c .before .before .args .faces) in
     (omega arith, normals-start v f, sym (fold-none (addFace v f) 0·0))
 
+-- where the call begins
+abbrev start : tie.After-is-zero Inv-loop μ-loop → tie.Start Inv-loop μ-loop
+start c = c .before .before .before .before .before .before
+
 returns : tie.Need-returns Inv-loop μ-loop
 unfolding facesCause
 returns c =
     let at = c .before .before .before .before in
-    let v = now (at .before .before .before .args .verts) in
-    let f = now (at .before .before .before .args .faces) in
+    let st = start (c .before) in
+    let v = now (st .args .verts) in
+    let f = now (st .args .faces) in
     ap (λ (d : Cause). meshOf (orElse d (inverted v f)) (volume v f))
     (normals-stop v f (at .loop .k) (omega arith) (at .loop .inv .1) (ap isZero (sym (c .before .before .normal .ensures)) ∙ sym (c .before .is-zero .ensures) ∙ c .if1 .taken))
 
@@ -38,8 +43,9 @@ loop-again : tie.Need-loop-again Inv-loop μ-loop
 loop-again c =
     let e = c .before in
     let at = e .before .before .before .before in
-    let v = now (at .before .before .before .args .verts) in
-    let f = now (at .before .before .before .args .faces) in (
+    let st = start (e .before) in
+    let v = now (st .args .verts) in
+    let f = now (st .args .faces) in (
       omega arith,
       normals-more v f (at .loop .k) (at .loop .inv .1) (ap isZero (sym (e .before .before .normal .ensures)) ∙ sym (e .before .is-zero .ensures) ∙ e .if1 .left),
       rw fold-more (simp (c .face-volume .ensures, at .loop .inv .2)),
@@ -70,9 +76,9 @@ check-faces-spec =
     loop-holds
     (λ c κs. (c .before .before .before .before .pre, omega arith))
     (λ c κs. tt)
-    (λ c. omega (arith, c .before .before .before .before .before .before .before .pre .faces .few))
+    (λ c. omega (arith, start (c .before) .pre .faces .few))
     returns
-    (λ c κs. (c .before .before .before .before .before .before .before .pre, omega arith))
+    (λ c κs. (start (c .before) .pre, omega arith))
     (λ c. omega arith)
     (λ c. omega arith)
     loop-again

@@ -21,11 +21,14 @@ loop-holds c = (omega arith, omega arith, (λ k l. omega arith), λ k l m. omega
 edge-requires : tie.Need-edge-requires Inv-loop μ-loop
 edge-requires c κs = let st = c .before .before .before .before .before in (st .pre .0 .faces .triples, st .pre .0 .below _ (omega arith))
 
+-- where the call begins
+abbrev start : tie.After-edge Inv-loop μ-loop → tie.Start Inv-loop μ-loop
+start c = c .before .before .before .before .before .before
+
 -- the edge at mid is at least every edge before it, and at most every edge after it
-ascends : (c : tie.After-edge Inv-loop μ-loop) (i j : ℕ) → i ≤ j → j < length (now (c .before .before .before .before .before .before .args .order))
-    → edge (now (c .before .before .before .before .before .before .args .faces)) (getD (now (c .before .before .before .before .before .before .args .order)) i 0)
-    ≤ edge (now (c .before .before .before .before .before .before .args .faces)) (getD (now (c .before .before .before .before .before .before .args .order)) j 0)
-ascends c = let st = c .before .before .before .before .before .before in sorted-le (edge (now (st .args .faces))) (now (st .args .order)) (st .pre .1)
+ascends : (c : tie.After-edge Inv-loop μ-loop) (i j : ℕ) → i ≤ j → j < length (now (start c .args .order))
+    → edge (now (start c .args .faces)) (getD (now (start c .args .order)) i 0) ≤ edge (now (start c .args .faces)) (getD (now (start c .args .order)) j 0)
+ascends c = let st = start c in sorted-le (edge (now (st .args .faces))) (now (st .args .order)) (st .pre .1)
 
 loop-again : tie.Need-loop-again Inv-loop μ-loop
 loop-again c =
