@@ -7,6 +7,7 @@ use Rattle.bisection.proofs.near.Tie as tie
 returns : tie.Need-returns
 unfolding near
 returns c =
+    let along = c .before .before .before .before .before .before in
     simp (
       c .bisected .ensures,
       c .before .if2 .taken,
@@ -14,14 +15,15 @@ returns c =
       ← c .before .before .before .farthest .ensures,
       c .before .before .before .before .if1 .taken,
       ← c .before .before .before .before .before .shortest .ensures,
-      ← c .before .before .before .before .before .before .along .ensures,
-      ← c .before .before .before .before .before .before .before .longest .ensures,
-      ← c .before .before .before .before .before .before .before .before .corner-sums .ensures,
+      ← along .along .ensures,
+      ← along .before .longest .ensures,
+      ← along .before .before .corner-sums .ensures,
     )
 
 returns-2 : tie.Need-returns-2
 unfolding near
 returns-2 c =
+    let longest = c .before .before .before .before .before .before in
     simp (
       c .if2 .left,
       ← c .before .too-rough .ensures,
@@ -29,8 +31,8 @@ returns-2 c =
       c .before .before .before .if1 .taken,
       ← c .before .before .before .before .shortest .ensures,
       ← c .before .before .before .before .before .along .ensures,
-      ← c .before .before .before .before .before .before .longest .ensures,
-      ← c .before .before .before .before .before .before .before .corner-sums .ensures,
+      ← longest .longest .ensures,
+      ← longest .before .corner-sums .ensures,
     )
 
 returns-3 : tie.Need-returns-3

@@ -7,13 +7,15 @@ use Rattle.corner_sums.proofs.add_terms.Tie as tie
 returns : tie.Need-returns
 unfolding addTerms
 returns c =
+    let gradient = c .before .before .before .before .before .before .before in
+    let potential = gradient .before .before .before .before .before in
     simp (
-      c .before .before .before .before .before .before .before .gradient-term3 .ensures,
-      c .before .before .before .before .before .before .before .before .before .gradient-term2 .ensures,
-      c .before .before .before .before .before .before .before .before .before .before .before .gradient-term .ensures,
-      c .before .before .before .before .before .before .before .before .before .before .before .before .potential-term3 .ensures,
-      c .before .before .before .before .before .before .before .before .before .before .before .before .before .potential-term2 .ensures,
-      c .before .before .before .before .before .before .before .before .before .before .before .before .before .before .before .potential-term .ensures,
+      gradient .gradient-term3 .ensures,
+      gradient .before .before .gradient-term2 .ensures,
+      gradient .before .before .before .before .gradient-term .ensures,
+      potential .potential-term3 .ensures,
+      potential .before .potential-term2 .ensures,
+      potential .before .before .before .potential-term .ensures,
     )
 
 pub add-terms-spec : {M : Type 1} → statement M

@@ -7,6 +7,7 @@ use Rattle.corner_sums.proofs.corner_at.Tie as tie
 returns : tie.Need-returns
 unfolding cornerAt
 returns c =
+    let root = c .before .before .before .before .before .before in
     simp (
       c .angle3 .ensures,
       c .before .angle2 .ensures,
@@ -14,10 +15,10 @@ returns c =
       c .before .before .before .logarithm3 .ensures,
       c .before .before .before .before .logarithm2 .ensures,
       c .before .before .before .before .before .logarithm .ensures,
-      c .before .before .before .before .before .before .root .ensures,
-      c .before .before .before .before .before .before .before .coordinate3 .ensures,
-      c .before .before .before .before .before .before .before .before .coordinate2 .ensures,
-      c .before .before .before .before .before .before .before .before .before .coordinate .ensures,
+      root .root .ensures,
+      root .before .coordinate3 .ensures,
+      root .before .before .coordinate2 .ensures,
+      root .before .before .before .coordinate .ensures,
     )
 
 pub corner-at-spec : {M : Type 1} → statement M

@@ -24,16 +24,17 @@ loop-holds c = (search needs, rw fold-none (c .zero-field .ensures))
 
 add-layer-requires : tie.Need-add-layer-requires Inv-loop μ-loop
 add-layer-requires c κs =
-    let y = c .before .before .before .before .before .before .before .before .before .before .before .before .before .before .before .before in
-    let a = y .before .before in
-    let z = c .before .before .before .before .before .before .before .before .before .before .before .before .before .before .before in (
+    let z = c .before .before .before .before .before .before .before .before .before .before .before .before .before .before .before in
+    let y = z .before in
+    let a = y .before .before in (
       (a .pre .1, simp (y .gauss-legendre2 .ensures), simp (y .gauss-legendre2 .ensures)),
       (a .pre .2, simp (z .gauss-legendre3 .ensures), simp (z .gauss-legendre3 .ensures)),
     )
 
 loop-again : tie.Need-loop-again Inv-loop μ-loop
 loop-again c =
-    let t = c .before .before .before .before .before .before .before .before in
+    let offset = c .before .before .before .before .before .before in
+    let t = offset .before .before in
     let b = t .before in
     let g = b .before .before .before .before .before .before .before .before .before in
     let a = g .before in
@@ -42,11 +43,13 @@ loop-again c =
     let u : getD (g .gauss-legendre .result .nodes) i nan ≡ node l i = simp (g .gauss-legendre .ensures) (node-at l i nan (a .pre .0) (t .loop-test .taken)) in
     let v : getD (g .gauss-legendre .result .weights) i nan ≡ weight l i = simp (g .gauss-legendre .ensures) (weight-at l i nan (a .pre .0) (t .loop-test .taken)) in (
       omega (arith, t .loop-test .taken),
-      rw fold-more (simp (c .add-layer .ensures, c .before .before .before .before .before .before .offset .ensures, b .before .before .half-widths .ensures, u, v, b .loop .inv .1)),
+      rw fold-more (simp (c .add-layer .ensures, offset .offset .ensures, b .before .before .half-widths .ensures, u, v, b .loop .inv .1)),
     )
 
 add-i : tie.Need-add-i Inv-loop μ-loop
-add-i c = record { fits = omega (arith, c .before .before .before .before .before .before .before .before .loop-test .taken, c .before .before .before .before .before .before .before .before .before .before .before .before .before .before .before .before .before .before .before .pre .0) }
+add-i c =
+    let turn = c .before .before .before .before .before .before .before .before in
+    record { fits = omega (arith, turn .loop-test .taken, turn .before .before .before .before .before .before .before .before .before .before .before .pre .0) }
 
 returns : tie.Need-returns Inv-loop μ-loop
 unfolding cubature

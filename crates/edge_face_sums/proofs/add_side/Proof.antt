@@ -21,9 +21,10 @@ returns c =
 
 returns-2 : tie.Need-returns-2
 returns-2 c =
-    let st = c .before .before .before .before .before .before .before .before .before .before in
+    let tested = c .before .before .before .before .before .before in
+    let st = tested .before .before .before .before in
     let a = st .args in
-    let t : finite (logarithm (a .a) (a .b) (a .e .length)) ≡ false = simp (← c .before .before .before .before .before .before .before .logarithm .ensures, ← c .before .before .before .before .before .before .is-finite .ensures) (c .before .before .before .before .before .if1 .left) in (
+    let t : finite (logarithm (a .a) (a .b) (a .e .length)) ≡ false = simp (← tested .before .logarithm .ensures, ← tested .is-finite .ensures) (c .before .before .before .before .before .if1 .left) in (
       c .add-dyad .ensures .0,
       λ s h. side-through (a .n) (a .e) (a .a) (a .b) s (c .add-dyad .last .0) (c .add-dyad .last .1 .0) t (record { field = a .run .field; count = c .add-dyad .result })
           (h .field) (simp (c .before .before .before .before .edge-key .ensures, c .before .before .before .dyad .ensures) at (c .add-dyad .ensures .1 (s .edges) (h .edges))),

@@ -15,8 +15,9 @@ returns c =
 
 returns-2 : tie.Need-returns-2
 returns-2 c =
-    let a = c .before .before .before .before .before .before .before .before .before .before .before .args in
-    let w = c .before .before .before .before .before .before .add-triangles in
+    let added = c .before .before .before .before .before .before in
+    let a = added .before .before .before .before .before .args in
+    let w = added .add-triangles in
     not-too-many (a .i) (a .p) (now (a .verts)) (now (a .faces)) (w .last .0) (w .last .1 .0) (w .result) (w .ensures .1) (omega (arith, c .before .before .before .before .before .if1 .left)) (c .symmetric .result)
     (simp (c .symmetric .ensures, c .before .add-infinite .ensures (sumsOf (a .p) (now (a .verts)) (now (a .faces)) .edges) (w .last .0) (w .ensures .1 .edges)))
 

@@ -19,14 +19,15 @@ returns c =
 
 returns-2 : tie.Need-returns-2
 returns-2 c =
-    let st = c .before .before .before .before .before .before .before .before .before .before in
+    let found = c .before .before .before .before .before .before in
+    let st = found .before .before .before .before in
     let a = st .args in
     let keys = now (a .keys) in
     let dyads = now (a .dyads) in
-    let f = c .before .before .before .before .before .before .before .find in
+    let f = found .before .find in
     let q = simp (c .before .numbers .ensures, c .before .before .add-matrices .ensures, c .before .before .before .dyad-at .ensures) at (c .store .ensures) in (
       record { few = st .pre .few; keyed = st .pre .keyed; filled = ap length (c .store .ensures) ∙ stored-length (f .result) (c .before .numbers .result) dyads ∙ st .pre .filled },
-      λ es h. is-found es keys dyads (a .count) h (a .key) (a .d) (omega (arith, c .before .before .before .before .before .before .before .before .before .if1 .left)) (f .result) (f .ensures) (st .pre .filled) (c .before .before .before .before .before .before .if2 .taken) (c .store .last .0) q,
+      λ es h. is-found es keys dyads (a .count) h (a .key) (a .d) (omega (arith, found .before .before .before .if1 .left)) (f .result) (f .ensures) (st .pre .filled) (found .if2 .taken) (c .store .last .0) q,
     )
 
 returns-3 : tie.Need-returns-3

@@ -11,20 +11,24 @@ use Rattle.put_sheet.proofs.put_sheet.Tie as tie
 abbrev input : tie.Start → SheetInput
 input c = let a = c .args in inputOf (a .kind) (now (a .verts)) (now (a .faces)) (a .magnetisation) (a .ambient) (now (a .stations))
 
+-- where the call begins
+abbrev start : tie.After-put-front → tie.Start
+start c = c .before .before .before .before .before .before .before
+
 put-rows-requires : tie.Need-put-rows-requires
 put-rows-requires c κs =
-    let h = c .before .before .before .before .before .before .before .before .before .before .before .pre in
+    let h = start (c .before .before .before .before) .pre in
     (record { body = h .body; center = c .before .center-of .ensures; corners = h .corners }, h .stations, omega arith)
 
 -- out keeps its length
-same-size : (c : tie.After-slice-known3) → length (c .before .before .put-rows .last .1 .1 .1 .1 .1 .1 .1 .0) ≡ length (now (c .before .before .before .before .before .before .before .before .before .before .before .before .before .before .args .out))
+same-size : (c : tie.After-slice-known3) → length (c .before .before .put-rows .last .1 .1 .1 .1 .1 .1 .1 .0) ≡ length (now (start (c .before .before .before .before .before .before .before) .args .out))
 same-size c = omega arith
 
 returns : tie.Need-returns
 returns c =
     let rows = c .before .before .before .before .before .before in
     let front = rows .before .before .before .before .before in
-    let st = front .before .before .before .before .before .before .before in
+    let st = start front in
     let a = st .args in
     let put = rows .put-rows .ensures in
     record {
@@ -37,7 +41,7 @@ put-sheet-spec =
     tie.close
     (tie.spec
     (λ c κs. let h = c .before .before .before .before .before .before .pre in (h .faces, h .order, omega arith))
-    (λ c κs m. let h = c .before .before .before .before .before .before .before .before .before .pre in (h .body m, h .order))
+    (λ c κs m. let h = start (c .before .before) .pre in (h .body m, h .order))
     (λ c. omega arith)
     (λ c. omega arith)
     (λ c. omega arith)

@@ -11,15 +11,18 @@ returns c = short (now (c .before .before .args .sheet)) (c .if1 .taken)
 
 returns-2 : tie.Need-returns-2
 returns-2 c =
-    wrong-pointer (now (c .before .before .before .before .before .before .before .before .before .args .sheet)) (c .before .before .pointer-of .result) (c .before .before .before .before .before .before .before .if1 .left) (omega arith) _ (c .before .pointer .ensures) (c .if2 .taken)
+    let long = c .before .before .before .before .before .before .before in
+    wrong-pointer (now (long .before .before .args .sheet)) (c .before .before .pointer-of .result) (long .if1 .left) (omega arith) _ (c .before .pointer .ensures) (c .if2 .taken)
 
 returns-3 : tie.Need-returns-3
 returns-3 c =
-    not-whole (now (c .before .before .before .before .before .before .before .before .before .before .args .sheet)) (c .before .before .before .pointer-of .result) (c .before .before .before .before .before .before .before .before .if1 .left) (omega arith) _ (c .before .before .pointer .ensures) (c .before .if2 .left) (c .if3 .taken)
+    let long = c .before .before .before .before .before .before .before .before in
+    not-whole (now (long .before .before .args .sheet)) (c .before .before .before .pointer-of .result) (long .if1 .left) (omega arith) _ (c .before .before .pointer .ensures) (c .before .if2 .left) (c .if3 .taken)
 
 returns-4 : tie.Need-returns-4
 returns-4 c =
-    right-length (now (c .before .before .before .before .before .before .before .before .before .before .args .sheet)) (c .before .before .before .pointer-of .result) (c .before .before .before .before .before .before .before .before .if1 .left) (omega arith) _ (c .before .before .pointer .ensures) (c .before .if2 .left) (c .if3 .left)
+    let long = c .before .before .before .before .before .before .before .before in
+    right-length (now (long .before .before .args .sheet)) (c .before .before .before .pointer-of .result) (long .if1 .left) (omega arith) _ (c .before .before .pointer .ensures) (c .before .if2 .left) (c .if3 .left)
 
 pub wrong-length-spec : {M : Type 1} → statement M
 wrong-length-spec = tie.close (tie.spec returns (λ c κs. search needs) (λ c κs. search needs) (λ c κs. search needs) (λ c κs. search needs) (λ c κs. search needs) (λ c κs. search needs) returns-2 (λ c. search needs) returns-3 returns-4)

@@ -16,9 +16,10 @@ put-requires c κs =
 
 returns : tie.Need-returns
 returns c =
+    let start = c .before .before .before .before .before .before .before .before in
     let f = c .before .before .before .before .before .decimal .ensures .1 .0 in
-    let g = c .before .before .before .before .before .decimal .ensures .1 .1 ∙ decimal-is (c .before .before .before .before .before .before .before .before .args .n) (c .before .before .before .before .before .decimal .result) f (search needs) in
-    ((c .before .before .before .before .before .decimal .ensures .0 .1 ∙ ap length g, few-digits (c .before .before .before .before .before .before .before .before .args .n) (c .before .before .before .before .before .decimal .result) f (search needs)), c .before .before .put .ensures ∙ ap (sets (now (c .before .before .before .before .before .before .before .before .args .out)) (c .before .before .before .before .before .before .before .before .args .at)) g)
+    let g = c .before .before .before .before .before .decimal .ensures .1 .1 ∙ decimal-is (start .args .n) (c .before .before .before .before .before .decimal .result) f (search needs) in
+    ((c .before .before .before .before .before .decimal .ensures .0 .1 ∙ ap length g, few-digits (start .args .n) (c .before .before .before .before .before .decimal .result) f (search needs)), c .before .before .put .ensures ∙ ap (sets (now (start .args .out)) (start .args .at)) g)
 
 pub put-decimal-spec : {M : Type 1} → statement M
 put-decimal-spec = tie.close (tie.spec (λ c κs. search needs) (λ c. search needs) (λ c. search needs) put-requires (λ c. search needs) returns)

@@ -26,7 +26,8 @@ to-bits-requires c κs = tt
 
 returns : tie.Need-returns Inv-loop μ-loop
 returns c =
-    sym (other (now (c .before .before .before .before .before .before .before .before .args .sheet)) (now (c .before .before .before .before .before .before .before .before .args .xs)) (c .before .before .before .before .before .before .before .before .args .at) (c .before .before .before .before .before .loop .i) (omega arith) (λ e. c .if1 .taken (c .before .before .before .u64-at .ensures ∙ e ∙ sym (c .before .to-bits .ensures))))
+    let start = c .before .before .before .before .before .before .before .before in
+    sym (other (now (start .args .sheet)) (now (start .args .xs)) (start .args .at) (c .before .before .before .before .before .loop .i) (omega arith) (λ e. c .if1 .taken (c .before .before .before .u64-at .ensures ∙ e ∙ sym (c .before .to-bits .ensures))))
 
 loop-again : tie.Need-loop-again Inv-loop μ-loop
 loop-again c = (omega arith, below-more _ _ (c .before .before .before .before .before .loop .inv .1) (sym (c .before .before .before .u64-at .ensures) ∙ c .if1 .left ∙ c .before .to-bits .ensures))

@@ -7,9 +7,10 @@ use Rattle.sphere.proofs.sphere_outside.Tie as tie
 returns : tie.Need-returns
 unfolding sphereOutside
 returns c =
+    let diagonal = c .before .before .before .before .before .before in
     simp (
-      c .before .before .before .before .before .before .before .root .ensures,
-      c .before .before .before .before .before .before .diagonal .ensures,
+      diagonal .before .root .ensures,
+      diagonal .diagonal .ensures,
       c .before .before .dipole-row .ensures,
       c .before .dipole-row2 .ensures,
       c .dipole-row3 .ensures,

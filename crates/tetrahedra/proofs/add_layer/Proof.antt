@@ -24,11 +24,12 @@ loop-holds c = (search needs, rw fold-none)
 loop-again : tie.Need-loop-again Inv-loop μ-loop
 loop-again c =
     let b = c .before .before .before .before .before in
-    let q = c .before .before .before .before .before .before .pre in
     let k = b .loop .j in
     let h : k < points = omega arith in
-    let x : getD (c .before .before .before .before .before .before .args .nodes .now) k nan ≡ mappedNode k = rw (q .0) (rule-node k h) in
-    let y : getD (c .before .before .before .before .before .before .args .weights .now) k nan ≡ mappedWeight k = rw (q .1) (rule-weight k h) in
+    let start = b .before in
+    let q = start .pre in
+    let x : getD (start .args .nodes .now) k nan ≡ mappedNode k = rw (q .0) (rule-node k h) in
+    let y : getD (start .args .weights .now) k nan ≡ mappedWeight k = rw (q .1) (rule-weight k h) in
     (omega arith, rw fold-more (simp (c .add-line .ensures, c .before .line-weight .ensures, x, y, b .loop .inv .1)))
 
 returns : tie.Need-returns Inv-loop μ-loop

@@ -21,37 +21,45 @@ work c = now (c .args .work)
 abbrev out : tie.Start → List ℕ
 out c = now (c .args .out)
 
+-- where the call begins
+abbrev start : tie.After-check-body → tie.Start
+start c = c .before .before .before .before .before .before .before
+
 returns : tie.Need-returns
 returns c =
-    let checked = c .before .before .before .before .before in
-    let st = checked .before .before .before .before .before .before .before in
+    let k = c .before .before .before .before .before in
+    let st = start k in
     let a = st .args in
-    body-refused (input st) (work st) (out st) (st .pre) (checked .check-body .ensures (a .magnetisation) (a .ambient) (now (a .stations))) (c .before .r .given .0 .0) (c .before .r .given .1)
+    body-refused (input st) (work st) (out st) (st .pre) (k .check-body .ensures (a .magnetisation) (a .ambient) (now (a .stations))) (c .before .r .given .0 .0) (c .before .r .given .1)
 
 -- ---- the body is not refused
 
-fits : (c : tie.After-sheet-length) → c .sheet-length .result ≤ length (out (c .before .before .before .before .before .before .before .before .before .before .before .before .before))
-fits c = let st = c .before .before .before .before .before .before .before .before .before .before .before .before .before in omega (arith, c .sheet-length .ensures, room (input st) (work st) (out st) (st .pre) .1)
+-- where the body was checked
+abbrev checked : tie.After-sheet-length → tie.After-check-body
+checked c = c .before .before .before .before .before .before
+
+fits : (c : tie.After-sheet-length) → c .sheet-length .result ≤ length (out (start (checked c)))
+fits c = let st = start (checked c) in omega (arith, c .sheet-length .ensures, room (input st) (work st) (out st) (st .pre) .1)
 
 slice-reshare-prefix-put-sheet : tie.Need-slice-reshare-prefix-put-sheet
-slice-reshare-prefix-put-sheet c = let st = c .before .before .before .before .before .before .before .before .before .before .before .before .before in omega (arith, room (input st) (work st) (out st) (st .pre) .0)
+slice-reshare-prefix-put-sheet c = let st = start (checked c) in omega (arith, room (input st) (work st) (out st) (st .pre) .0)
 
 slice-aggregate-put-sheet : tie.Need-slice-aggregate-put-sheet
 slice-aggregate-put-sheet c =
     let v = c .before .before .before in
     let k = v .before .before .before .before in
-    let st = k .before .before .before .before .before .before .before in
+    let st = start k in
     sym (order-size (input st) (work st) (out st) (st .pre) (k .check-body .ensures (st .args .magnetisation) (st .args .ambient) (now (st .args .stations))) (v .volume .given .0 .0) (v .volume .given .1))
 
 slice-aggregate-put-sheet-2 : tie.Need-slice-aggregate-put-sheet-2
-slice-aggregate-put-sheet-2 c = let t = c .before .before in sym (length-take-le (t .sheet-length .result) (out (t .before .before .before .before .before .before .before .before .before .before .before .before .before)) (fits t))
+slice-aggregate-put-sheet-2 c = let t = c .before .before in sym (length-take-le (t .sheet-length .result) (out (start (checked t))) (fits t))
 
 put-sheet-requires : tie.Need-put-sheet-requires
 put-sheet-requires c κs =
     let t = c .before .before in
     let v = t .before .before in
     let k = v .before .before .before .before in
-    let st = k .before .before .before .before .before .before .before in
+    let st = start k in
     prepared (input st) (work st) (out st) (st .pre) (k .check-body .ensures (st .args .magnetisation) (st .args .ambient) (now (st .args .stations))) (v .volume .given .0 .0) (v .volume .given .1) _ (length-take-le (t .sheet-length .result) (out st) (fits t) ∙ t .sheet-length .ensures)
 
 returns-2 : tie.Need-returns-2
@@ -59,7 +67,7 @@ returns-2 c =
     let t = c .before .before .before .before .before .before in
     let v = t .before .before in
     let k = v .before .before .before .before in
-    let st = k .before .before .before .before .before .before .before in
+    let st = start k in
     put (input st) (work st) (out st) (st .pre) (k .check-body .ensures (st .args .magnetisation) (st .args .ambient) (now (st .args .stations))) (v .volume .given .0 .0) (v .volume .given .1) (c .before .before .before .put-sheet .result) (t .sheet-length .result) (t .sheet-length .ensures) (c .before .before .before .put-sheet .ensures) (c .answer .ensures)
 
 pub write-counted-spec : {M : Type 1} → statement M
@@ -69,7 +77,7 @@ write-counted-spec =
     (λ c κs. let st = c .before .before .before .before .before .before in counted (input st) (work st) (out st) (st .pre))
     (λ c. search needs)
     (λ c. search needs)
-    (λ c κs. let st = c .before .before .before .before .before .before .before .before .before .before .before .before in few (input st) (work st) (out st) (st .pre))
+    (λ c κs. let st = start (c .before .before .before .before .before) in few (input st) (work st) (out st) (st .pre))
     slice-reshare-prefix-put-sheet
     slice-aggregate-put-sheet
     (λ c. fits (c .before))

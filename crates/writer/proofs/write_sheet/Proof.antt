@@ -24,7 +24,11 @@ work c = now (c .args .work)
 abbrev out : tie.Start → List ℕ
 out c = now (c .args .out)
 
-typed : (c : tie.After-count-cause) → Typed (input (c .before .before .before .before .before .before))
+-- where the call begins
+abbrev start : tie.After-count-cause → tie.Start
+start c = c .before .before .before .before .before .before
+
+typed : (c : tie.After-count-cause) → Typed (input (start c))
 typed c = record {
   kind = search needs;
   vertices = λ i. c .before .before .before .before .before .shared-slice-known .given i;
@@ -34,30 +38,31 @@ typed c = record {
   stations = λ i. c .before .before .before .shared-slice-known3 .given i;
 }
 
-counts : (c : tie.After-count-cause) (d : Cause) → c .count-cause .result ≡ d → countCause (input (c .before .before .before .before .before .before)) (length (work (c .before .before .before .before .before .before))) (length (out (c .before .before .before .before .before .before))) ≡ d
-counts c d e = sym (c .count-cause .ensures (input (c .before .before .before .before .before .before)) (record { kind = refl; vertices = refl; faces = refl; stations = refl })) ∙ e
+counts : (c : tie.After-count-cause) (d : Cause) → c .count-cause .result ≡ d → countCause (input (start c)) (length (work (start c))) (length (out (start c))) ≡ d
+counts c d e = sym (c .count-cause .ensures (input (start c)) (record { kind = refl; vertices = refl; faces = refl; stations = refl })) ∙ e
 
-numbers : (c : tie.After-number-cause) (d : Cause) → c .number-cause .result ≡ d → outOfLimits (input (c .before .before .before .before .before .before .before .before .before)) ≡ d
-numbers c d e = let a = c .before .before .before .before .before .before .before .before .before .args in sym (c .number-cause .ensures (a .kind) (now (a .faces))) ∙ e
+numbers : (c : tie.After-number-cause) (d : Cause) → c .number-cause .result ≡ d → outOfLimits (input (start (c .before .before .before))) ≡ d
+numbers c d e = let a = start (c .before .before .before) .args in sym (c .number-cause .ensures (a .kind) (now (a .faces))) ∙ e
 
 returns : tie.Need-returns
 returns c =
     let t = c .before .before .before in
-    let st = t .before .before .before .before .before .before in
+    let st = start t in
     by-counts (input st) (typed t) (work st) (out st) (c .before .counts .given .0 .0) (counts t (Refused (c .before .counts .given .0 .0)) (c .before .counts .given .1))
 
 returns-2 : tie.Need-returns-2
 returns-2 c =
     let t = c .before .before .before .before .before .before in
-    let st = t .before .before .before .before .before .before in
+    let st = start t in
     by-limits (input st) (typed t) (work st) (out st) (c .before .numbers .given .0 .0) (counts t None (c .before .before .before .before .enum-told .given .1)) (numbers (c .before .before .before) (Refused (c .before .numbers .given .0 .0)) (c .before .numbers .given .1))
 
 returns-3 : tie.Need-returns-3
 returns-3 c =
-    let told = c .before .before .before .before .before .before .before .before .before .before in
+    let told2 = c .before .before .before .before .before .before .before in
+    let told = told2 .before .before .before in
     let t = told .before .before in
-    let st = t .before .before .before .before .before .before in
-    later (input st) (typed t) (work st) (out st) (counts t None (told .enum-told .given .1)) (numbers (c .before .before .before .before .before .before .before .before .before) None (c .before .before .before .before .before .before .before .enum-told2 .given .1)) (c .before .before .before .before .write-counted .ensures)
+    let st = start t in
+    later (input st) (typed t) (work st) (out st) (counts t None (told .enum-told .given .1)) (numbers (told2 .before .before) None (told2 .enum-told2 .given .1)) (c .before .before .before .before .write-counted .ensures)
 
 pub write-sheet-spec : {M : Type 1} → statement M
 write-sheet-spec =
