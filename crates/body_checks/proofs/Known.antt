@@ -9,6 +9,7 @@ use lib.Ieee.{Float}
 use lib.ListN.{length}
 use borrow.Author.Tests.{eqb-true}
 use Rattle.refusals.specs.declared.Cause.the-variants.{None}
+use Rattle.refusals.specs.Causes.{orElse}
 use Rattle.refusals.proofs.Causes.{both}
 use Rattle.lists.proofs.Numbers as numbers
 use Rattle.orders.specs.Order.{orderList}
@@ -86,17 +87,15 @@ module _ (b : List ℕ) (v : List Float) (f o : List ℕ) (l : Loaded b v f o) (
       let n : length o ≡ length f = ap length (l .order) ∙ unpack-length 4 (3 * facesIn b) b _ ∙ sym (ap length (l .faces) ∙ faces-length b) in
       is-order f o n (rw (l .faces, l .order) (none-order b (l .opened) e .1)) (now-ready .body .faces)
 
--- ---- 4, 17 and 18 of the lists as they are read: n is their length, f the faces
+-- ---- 4, 17 and 18 of the lists as they are read: f is the face list, o the order list
 
-module _ (b : List ℕ) {n : ℕ} (e : n ≡ 3 * facesIn b) where
-  pub vertex-is : {at : ℕ} (v : ℕ) → v ≡ verticesIn b → at ≡ facesStart b → mesh.noSuchVertex v (unpack 4 n b at) ≡ noSuchVertex (parse b)
+module _ (b f : List ℕ) (q : f ≡ parse b .faces) where
+  pub vertex-is : (v : ℕ) → v ≡ verticesIn b → mesh.noSuchVertex v f ≡ noSuchVertex (parse b)
   unfolding noSuchVertex
-  vertex-is v q p =
+  vertex-is v p =
       let third : 3 * verticesIn b / 3 ≡ verticesIn b = omega arith in
-      ap₂ mesh.noSuchVertex (q ∙ sym (ap (λ (k : ℕ). k / 3) (vertices-length b) ∙ third)) (faces-loaded b e p)
+      ap₂ mesh.noSuchVertex (p ∙ sym (ap (λ (k : ℕ). k / 3) (vertices-length b) ∙ third)) q
 
-  pub order-is : {at : ℕ} (f : List ℕ) → f ≡ parse b .faces → at ≡ orderStart b → wrongOrder f (unpack 4 n b at) ≡ wrongOrder (parse b .faces) (orderIn b)
-  order-is f q p = ap₂ wrongOrder q (order-loaded b e p)
-
-  pub mate-is : {at : ℕ} (f : List ℕ) → f ≡ parse b .faces → at ≡ matesStart b → wrongMate f (unpack 4 n b at) ≡ wrongMate (parse b .faces) (matesIn b)
-  mate-is f q p = ap₂ wrongMate q (rw (e, p))
+  pub lists-are : {at : ℕ} (o : List ℕ) → o ≡ orderIn b → at ≡ matesStart b
+      → orElse (wrongOrder f o) (wrongMate f (unpack 4 (length f) b at)) ≡ orElse (wrongOrder (parse b .faces) (orderIn b)) (wrongMate (parse b .faces) (matesIn b))
+  lists-are o p e = rw (p, e, q, faces-length b)

@@ -2,17 +2,16 @@
 ghost use mathlib.Core.Path.{_≡_};
 ghost use Prim.Native.Nat.{_*_};
 ghost use lib.ListN.{length};
-ghost use Rattle.refusals.specs.declared.Cause.the-variants.{None};
 ghost use Rattle.mesh.specs.Check.{meshOf};
 ghost use Rattle.sheet.specs.Bytes.{volume};
 ghost use Rattle.sheet.specs.Writer.{outOfLimits};
 ghost use Rattle.sheet.specs.Checker.{facesIn, parse, orderIn, solidCause};
 ghost use Rattle.readers.specs.Opened.{Opened};
 ghost use Rattle.body_checks.specs.Stages.{listsCause, volumeCause, Ready};
-use list_scans::read_faces;
-use list_scans::read_order;
-use list_scans::wrong_mate;
+use layout::read_u32s;
+use list_scans::wrong_lists;
 use mesh::Mesh;
+use mesh::scan::no_such_vertex;
 use mesh::surface;
 use newtonian::vector_within_limits;
 use refusals::Cause;
@@ -43,19 +42,17 @@ pub fn out_of_limits(sheet: &[u8], verts: &[f64]) -> Cause
 pub fn lists_cause(sheet: &[u8], faces: &mut [u32], order: &mut [u32]) -> Cause
     requires { ⌜ Opened (now sheet) × (length (now faces) ≡ 3 * facesIn (now sheet)) × (length (now order) ≡ 3 * facesIn (now sheet)) ⌝ }
     ensures { λ r. ⌜ r ≡ listsCause (now (sheet .entry)) ⌝ }
-    ensures { λ r. ⌜ (r ≡ None → (now (faces .exit) ≡ parse (now (sheet .entry)) .faces) × (now (order .exit) ≡ orderIn (now (sheet .entry)))) ⌝ }
+    ensures { λ r. ⌜ (now (faces .exit) ≡ parse (now (sheet .entry)) .faces) × (now (order .exit) ≡ orderIn (now (sheet .entry))) ⌝ }
 {
     let v = readers::vertices(sheet) as usize;
     let f = readers::faces(sheet) as usize;
-    let missing = read_faces(sheet, 24 * v, v, faces);
+    read_u32s(sheet, 24 * v, faces);
+    read_u32s(sheet, 24 * v + 12 * f, order);
+    let missing = no_such_vertex(v, faces);
     if let Cause::Refused(r) = missing {
         return Cause::Refused(r);
     }
-    let disorder = read_order(faces, sheet, 24 * v + 12 * f, order);
-    if let Cause::Refused(r) = disorder {
-        return Cause::Refused(r);
-    }
-    wrong_mate(faces, sheet, 24 * v + 24 * f)
+    wrong_lists(faces, order, sheet, 24 * v + 24 * f)
 }
 
 // The causes 7 and 8, or 9, or else the volume.

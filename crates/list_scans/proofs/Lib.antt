@@ -1,4 +1,4 @@
--- What the scans read and compare; `Lists` is for the crates above too.
-pub mod Lists
+-- What the scans read and compare.
 mod Compare
 mod Mates
+mod Pairs

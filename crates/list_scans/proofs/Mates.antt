@@ -12,10 +12,13 @@ use Rattle.refusals.specs.Causes.{unless, firstOf}
 use Rattle.lists.proofs.Numbers.{both}
 use Rattle.orders.specs.Edges.{edgeNumber, edge, reverse}
 use Rattle.layout.specs.LittleEndian.{number, unpack}
+use Rattle.layout.proofs.Lists.{unpack-at}
 use Rattle.mesh.proofs.Scans.{scan-more, scan-stop}
 use Rattle.sheet.specs.Checker.{isReverse, wrongMate}
 use Rattle.list_scans.specs.Reverses.{reverses}
-use Rattle.list_scans.proofs.Lists.{number-at}
+
+pub number-at : (b : List ℕ) (at n i : ℕ) → i < n → getD (unpack 4 n b at) i 0 ≡ number 4 b (at + 4 * i)
+number-at b at n i h = let e : at + i * 4 ≡ at + 4 * i = omega arith in unpack-at 4 n b at i h ∙ ap (number 4 b) e
 
 -- ---- the test of one mate: w, of a use whose reverse is (a, b)
 

@@ -1,38 +1,21 @@
-// The checker's scans of a sheet's face list, order list and mates: each list is read and tested in one pass.
+// The checker's scans of a sheet's order list and mates, once the order list is read.
 ghost use mathlib.Core.Path.{_≡_};
-ghost use mathlib.Core.Bool.{_&&_, _||_};
+ghost use mathlib.Core.Bool.{true, _&&_, _||_};
 ghost use Prim.Native.Nat.{_+_, _*_, _%_, _≤_, _<_};
 ghost use lib.Dec.{eqb, ltb};
-ghost use lib.ListN.{length};
-ghost use Rattle.refusals.specs.declared.Cause.the-variants.{None};
-ghost use Rattle.orders.specs.Edges.{maxFaces, edgeNumber, edge};
-ghost use Rattle.mesh.specs.Check.{noSuchVertex};
-ghost use Rattle.layout.specs.LittleEndian.{unpack};
+ghost use lib.ListN.{length, getD};
+ghost use Rattle.refusals.specs.Causes.{orElse};
+ghost use Rattle.orders.specs.Edges.{maxFaces, edgeNumber, edge, IsUse};
+ghost use Rattle.layout.specs.LittleEndian.{number, unpack};
 ghost use Rattle.sheet.specs.Checker.{wrongOrder, wrongMate};
-ghost use Rattle.list_scans.specs.Reverses.{reverses};
+ghost use Rattle.list_scans.specs.Reverses.{Listed, reverses};
+ghost use Rattle.list_scans.specs.Paired.{PairedFace, Paired};
 use layout::u32_at;
 use orders::edges::edge;
 use orders::edges::number;
+use orders::edges::start;
 use refusals::Cause;
 use refusals::Refusal;
-
-// Cause 4: reads the face list from place at on, up to the first corner that names none of the vertices.
-pub fn read_faces(sheet: &[u8], at: usize, vertices: usize, faces: &mut [u32]) -> Cause
-    requires { ⌜ (length (now faces) ≤ 3 * maxFaces) × (at + 4 * length (now faces) ≤ length (now sheet)) ⌝ }
-    ensures { λ r. ⌜ r ≡ noSuchVertex vertices (unpack 4 (length (now (faces .entry))) (now (sheet .entry)) at) ⌝ }
-    ensures { λ r. ⌜ (r ≡ None → now (faces .exit) ≡ unpack 4 (length (now (faces .entry))) (now (sheet .entry)) at) ⌝ }
-{
-    let mut i = 0;
-    while i < faces.len() {
-        let w = u32_at(sheet, at + 4 * i);
-        faces[i] = w;
-        if vertices <= w as usize {
-            return Cause::Refused(Refusal::NoSuchVertex((i / 3) as u32));
-        }
-        i += 1;
-    }
-    Cause::None
-}
 
 // Whether edge e, at place i of the order list, is above the last one, if there is one.
 fn is_above(i: usize, last: u64, e: u64) -> bool
@@ -44,21 +27,31 @@ fn is_above(i: usize, last: u64, e: u64) -> bool
     last < e
 }
 
-// Cause 17: reads the order list from place at on, up to the first entry that is no edge use or whose edge does not ascend strictly.
-pub fn read_order(faces: &[u32], sheet: &[u8], at: usize, order: &mut [u32]) -> Cause
-    requires { ⌜ (length (now faces) % 3 ≡ 0) × (length (now order) ≡ length (now faces)) × (at + 4 * length (now faces) ≤ length (now sheet)) ⌝ }
-    ensures { λ r. ⌜ r ≡ wrongOrder (now (faces .entry)) (unpack 4 (length (now (faces .entry))) (now (sheet .entry)) at) ⌝ }
-    ensures { λ r. ⌜ (r ≡ None → now (order .exit) ≡ unpack 4 (length (now (faces .entry))) (now (sheet .entry)) at) ⌝ }
+// The edge of use u. Where the mates are paired the mate of u leaves the vertex that u reaches, and no division by 3 is needed to find it.
+fn edge_of(faces: &[u32], sheet: &[u8], at: usize, paired: bool, u: u32) -> u64
+    requires { ⌜ IsUse (now faces) u × (at + 4 * length (now faces) ≤ length (now sheet)) × (paired ≡ true → Paired (now faces) (unpack 4 (length (now faces)) (now sheet) at)) ⌝ }
+    ensures { λ r. ⌜ r ≡ edge (now (faces .entry)) u ⌝ }
+{
+    if paired {
+        let k = u as usize;
+        return number(faces[k], start(faces, u32_at(sheet, at + 4 * k)));
+    }
+    edge(faces, u)
+}
+
+// Cause 17: an entry of the order list that is no edge use, or whose edge does not ascend strictly. The mates stand from place at on.
+fn wrong_order(faces: &[u32], order: &[u32], sheet: &[u8], at: usize, paired: bool) -> Cause
+    requires { ⌜ Listed (now faces) (now order) (now sheet) at × (paired ≡ true → Paired (now faces) (unpack 4 (length (now faces)) (now sheet) at)) ⌝ }
+    ensures { λ r. ⌜ r ≡ wrongOrder (now (faces .entry)) (now (order .entry)) ⌝ }
 {
     let mut i = 0;
     let mut last = 0;
     while i < order.len() {
-        let u = u32_at(sheet, at + 4 * i);
-        order[i] = u;
+        let u = order[i];
         if faces.len() <= u as usize {
             return Cause::Refused(Refusal::WrongOrder);
         }
-        let e = edge(faces, u);
+        let e = edge_of(faces, sheet, at, paired, u);
         if !is_above(i, last, e) {
             return Cause::Refused(Refusal::WrongOrder);
         }
@@ -66,6 +59,57 @@ pub fn read_order(faces: &[u32], sheet: &[u8], at: usize, order: &mut [u32]) -> 
         i += 1;
     }
     Cause::None
+}
+
+// Whether w is an edge use that leaves vertex x and has the mate u.
+fn points_back(faces: &[u32], sheet: &[u8], at: usize, u: usize, w: u32, x: u32) -> bool
+    requires { ⌜ at + 4 * length (now faces) ≤ length (now sheet) ⌝ }
+    ensures { λ r. ⌜ (r ≡ true → (w < length (now (faces .entry))) × (getD (now (faces .entry)) w 0 ≡ x) × (number 4 (now (sheet .entry)) (at + 4 * w) ≡ u)) ⌝ }
+{
+    let k = w as usize;
+    if faces.len() <= k {
+        return false;
+    }
+    if faces[k] != x {
+        return false;
+    }
+    u32_at(sheet, at + 4 * k) as usize == u
+}
+
+// Whether the mates of the three edge uses of a face, of which i is the first, are paired.
+fn is_paired(faces: &[u32], sheet: &[u8], at: usize, i: usize) -> bool
+    requires { ⌜ (length (now faces) % 3 ≡ 0) × (i % 3 ≡ 0) × (i < length (now faces)) × (at + 4 * length (now faces) ≤ length (now sheet)) ⌝ }
+    ensures { λ r. ⌜ (r ≡ true → PairedFace (now (faces .entry)) (unpack 4 (length (now (faces .entry))) (now (sheet .entry)) at) i) ⌝ }
+{
+    let place = at + 4 * i;
+    if !points_back(faces, sheet, at, i, u32_at(sheet, place), faces[i + 1]) {
+        return false;
+    }
+    if !points_back(
+        faces,
+        sheet,
+        at,
+        i + 1,
+        u32_at(sheet, place + 4),
+        faces[i + 2],
+    ) {
+        return false;
+    }
+    points_back(faces, sheet, at, i + 2, u32_at(sheet, place + 8), faces[i])
+}
+
+fn all_paired(faces: &[u32], sheet: &[u8], at: usize) -> bool
+    requires { ⌜ (length (now faces) % 3 ≡ 0) × (length (now faces) ≤ 3 * maxFaces) × (at + 4 * length (now faces) ≤ length (now sheet)) ⌝ }
+    ensures { λ r. ⌜ (r ≡ true → Paired (now (faces .entry)) (unpack 4 (length (now (faces .entry))) (now (sheet .entry)) at)) ⌝ }
+{
+    let mut i = 0;
+    while i < faces.len() {
+        if !is_paired(faces, sheet, at, i) {
+            return false;
+        }
+        i += 3;
+    }
+    true
 }
 
 // Whether the mate w is an edge use, of the edge (from, to).
@@ -98,7 +142,7 @@ fn are_reverses(faces: &[u32], sheet: &[u8], at: usize, i: usize) -> bool
 }
 
 // Cause 18: a mate, of those from place at on, that is no edge use, or not the reverse.
-pub fn wrong_mate(faces: &[u32], sheet: &[u8], at: usize) -> Cause
+fn wrong_mate(faces: &[u32], sheet: &[u8], at: usize) -> Cause
     requires { ⌜ (length (now faces) % 3 ≡ 0) × (length (now faces) ≤ 3 * maxFaces) × (at + 4 * length (now faces) ≤ length (now sheet)) ⌝ }
     ensures { λ r. ⌜ r ≡ wrongMate (now (faces .entry)) (unpack 4 (length (now (faces .entry))) (now (sheet .entry)) at) ⌝ }
 {
@@ -110,4 +154,20 @@ pub fn wrong_mate(faces: &[u32], sheet: &[u8], at: usize) -> Cause
         i += 3;
     }
     Cause::None
+}
+
+// The causes 17 and 18, with the mates from place at on. Paired mates are reverses; only where they are not is each tested as the definition has it.
+pub fn wrong_lists(faces: &[u32], order: &[u32], sheet: &[u8], at: usize) -> Cause
+    requires { ⌜ Listed (now faces) (now order) (now sheet) at ⌝ }
+    ensures { λ r. ⌜ r ≡ orElse (wrongOrder (now (faces .entry)) (now (order .entry))) (wrongMate (now (faces .entry)) (unpack 4 (length (now (faces .entry))) (now (sheet .entry)) at)) ⌝ }
+{
+    let paired = all_paired(faces, sheet, at);
+    let disorder = wrong_order(faces, order, sheet, at, paired);
+    if let Cause::Refused(r) = disorder {
+        return Cause::Refused(r);
+    }
+    if paired {
+        return Cause::None;
+    }
+    wrong_mate(faces, sheet, at)
 }

@@ -1,8 +1,12 @@
 // The scans of `check_mesh`: the first number, corner or place of the order list that fails a test.
 ghost use mathlib.Core.Path.{_≡_};
+ghost use mathlib.Core.Bool.{true, _&&_};
 ghost use Prim.Native.Nat.{_*_, _<_, _≤_};
 ghost use lib.ListN.{length};
 ghost use lib.Dec.{leb};
+ghost use Rattle.refusals.specs.Causes.{unless};
+ghost use Rattle.refusals.specs.declared.Refusal.the-variants.{OutOfLimits};
+ghost use Rattle.refusals.specs.declared.Cause.the-variants.{None};
 ghost use Rattle.lists.specs.Count.{Below};
 ghost use Rattle.orders.specs.Edges.{from, to, occurrences, maxFaces, Faces};
 ghost use Rattle.orders.specs.Order.{orderList, Uses};
@@ -17,25 +21,58 @@ use orders::order::pass;
 use refusals::Cause;
 use refusals::Refusal;
 
+// Without a branch, so that a loop can test several numbers at a time.
+fn both(a: bool, b: bool) -> bool
+    ensures { λ r. ⌜ r ≡ (a && b) ⌝ }
+{
+    if a {
+        return b;
+    }
+    false
+}
+
+fn all_within_limits(numbers: &[f64]) -> bool
+    ensures { λ r. ⌜ unless r OutOfLimits ≡ outOfLimits (now (numbers .entry)) ⌝ }
+{
+    let mut all = true;
+    let mut i = 0;
+    while i < numbers.len() {
+        all = both(all, within_limits(numbers[i]));
+        i += 1;
+    }
+    all
+}
+
 // Cause 3: a number that is not finite, or over 10⁹.
 pub fn out_of_limits(numbers: &[f64]) -> Cause
     ensures { λ r. ⌜ r ≡ outOfLimits (now (numbers .entry)) ⌝ }
 {
-    let mut i = 0;
-    while i < numbers.len() {
-        if !within_limits(numbers[i]) {
-            return Cause::Refused(Refusal::OutOfLimits);
-        }
-        i += 1;
+    if all_within_limits(numbers) {
+        return Cause::None;
     }
-    Cause::None
+    Cause::Refused(Refusal::OutOfLimits)
 }
 
-// Cause 4: the face of the first corner that names none of the vertices.
+fn all_name_vertices(vertices: usize, faces: &[u32]) -> bool
+    ensures { λ r. ⌜ (r ≡ true → noSuchVertex vertices (now (faces .entry)) ≡ None) ⌝ }
+{
+    let mut all = true;
+    let mut i = 0;
+    while i < faces.len() {
+        all = both(all, (faces[i] as usize) < vertices);
+        i += 1;
+    }
+    all
+}
+
+// Cause 4: the face of the first corner that names none of the vertices. It is looked for only where there is one.
 pub fn no_such_vertex(vertices: usize, faces: &[u32]) -> Cause
     requires { ⌜ length (now faces) ≤ 3 * maxFaces ⌝ }
     ensures { λ r. ⌜ r ≡ noSuchVertex vertices (now (faces .entry)) ⌝ }
 {
+    if all_name_vertices(vertices, faces) {
+        return Cause::None;
+    }
     let mut i = 0;
     while i < faces.len() {
         if vertices <= faces[i] as usize {

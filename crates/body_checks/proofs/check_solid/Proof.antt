@@ -15,16 +15,18 @@ tested c = ap isMesh (sym (c .before .kind .ensures)) ∙ sym (c .is-mesh .ensur
 
 returns : tie.Need-returns
 returns c =
-    let a = c .before .before .before .before .before .before .before .args in
-    c .check-faces .ensures ∙ of-mesh (now (a .sheet)) (now (a .verts)) (now (a .faces)) (c .before .before .before .before .before .before .before .pre) (tested (c .before .before) ∙ c .before .if1 .taken)
+    let st = c .before .before .before .before .before .before .before in
+    let a = st .args in
+    c .check-faces .ensures ∙ of-mesh (now (a .sheet)) (now (a .verts)) (now (a .faces)) (st .pre) (tested (c .before .before) ∙ c .before .if1 .taken)
 
 check-prism-requires : tie.Need-check-prism-requires
 check-prism-requires c κs = let n = c .before .before .before .before .before .before .pre .corners (tested (c .before) ∙ c .if1 .left) in omega arith
 
 returns-2 : tie.Need-returns-2
 returns-2 c =
-    let a = c .before .before .before .before .before .before .before .args in
-    c .check-prism .ensures ∙ of-prism (now (a .sheet)) (now (a .verts)) (now (a .faces)) (c .before .before .before .before .before .before .before .pre) (tested (c .before .before) ∙ c .before .if1 .left)
+    let st = c .before .before .before .before .before .before .before in
+    let a = st .args in
+    c .check-prism .ensures ∙ of-prism (now (a .sheet)) (now (a .verts)) (now (a .faces)) (st .pre) (tested (c .before .before) ∙ c .before .if1 .left)
 
 pub check-solid-spec : {M : Type 1} → statement M
 check-solid-spec = tie.close (tie.spec (λ c κs. search needs) (λ c κs. search needs) (λ c κs. search needs) returns check-prism-requires returns-2)

@@ -10,7 +10,8 @@ use Rattle.body_checks.proofs.volume_cause.Tie as tie
 
 returns : tie.Need-returns
 returns c =
-    other-volume (now (c .before .before .before .before .before .before .before .before .before .before .args .sheet)) _ (sym (c .before .before .before .before .computed .given .1) ∙ c .before .before .before .before .before .before .check-solid .ensures)
+    let solid = c .before .before .before .before .before .before in
+    other-volume (now (solid .before .before .before .before .args .sheet)) _ (sym (c .before .before .before .before .computed .given .1) ∙ solid .check-solid .ensures)
     (ap₂ eqb (sym (c .before .before .volume-bits .ensures)) (sym (c .before .to-bits .ensures)) ∙ ne-eqb _ _ (c .if1 .taken))
 
 returns-2 : tie.Need-returns-2
@@ -18,7 +19,8 @@ returns-2 c = refused-solid (now (c .before .before .before .before .before .bef
 
 returns-3 : tie.Need-returns-3
 returns-3 c =
-    same-volume (now (c .before .before .before .before .before .before .before .before .before .before .args .sheet)) _ (sym (c .before .before .before .before .computed .given .1) ∙ c .before .before .before .before .before .before .check-solid .ensures)
+    let solid = c .before .before .before .before .before .before in
+    same-volume (now (solid .before .before .before .before .args .sheet)) _ (sym (c .before .before .before .before .computed .given .1) ∙ solid .check-solid .ensures)
     (ap₂ eqb (sym (c .before .before .volume-bits .ensures)) (sym (c .before .to-bits .ensures)) ∙ eq-eqb _ _ (c .if1 .left))
 
 pub volume-cause-spec : {M : Type 1} → statement M

@@ -2,43 +2,60 @@
 use mathlib.Core.Path.{_≡_, sym, _∙_}
 use denote.Ref.{now}
 use borrow.Author.Needs.{needs}
+use Rattle.refusals.specs.declared.Cause.the-variants.{None}
+use Rattle.sheet.specs.Writer.{outOfLimits}
 use Rattle.sheet.specs.Checker.{parse}
 use Rattle.body_checks.specs.Stages.{bodyCause}
 use Rattle.body_checks.proofs.Known.{vertices-loaded}
 use Rattle.checker.proofs.body_cause.Statement.{statement}
 use Rattle.checker.proofs.body_cause.Tie as tie
 
-verts-read : (c : tie.After-read-f64s) → c .read-f64s .last .1 .1 .0 ≡ parse (now (c .before .before .before .before .before .before .args .sheet)) .vertices
-verts-read c = c .read-f64s .ensures ∙ vertices-loaded (now (c .before .before .before .before .before .before .args .sheet)) (c .before .before .before .before .before .before .pre .1)
+-- where the call begins
+abbrev start : tie.After-read-f64s → tie.Start
+start c = c .before .before .before .before .before .before
 
-out-of-limits-requires : tie.Need-out-of-limits-requires
-out-of-limits-requires c κs = (c .before .before .before .before .before .before .before .before .before .pre .0, verts-read (c .before .before .before))
+-- where the vertices were read, and where the lists were
+abbrev read : tie.After-out-of-limits → tie.After-read-f64s
+read c = c .before .before .before .before
+
+abbrev tried : tie.After-lists-cause → tie.After-out-of-limits
+tried c = c .before .before .before .before .before
+
+verts-read : (c : tie.After-read-f64s) → c .read-f64s .last .1 .1 .0 ≡ parse (now (start c .args .sheet)) .vertices
+verts-read c = c .read-f64s .ensures ∙ vertices-loaded (now (start c .args .sheet)) (start c .pre .1)
 
 returns : tie.Need-returns
 unfolding bodyCause
 returns c = rw (sym (c .before .before .before .out-of-limits .ensures) ∙ c .before .numbers .given .1)
 
+-- 3 does not hold
+within : (c : tie.After-lists-cause) → outOfLimits (parse (now (start (read (tried c)) .args .sheet))) ≡ None
+within c = sym (tried c .out-of-limits .ensures) ∙ c .before .before .before .enum-told .given .1
+
 returns-2 : tie.Need-returns-2
 unfolding bodyCause
-returns-2 c = rw (sym (c .before .before .before .before .before .before .before .before .before .before .before .before .out-of-limits .ensures) ∙ c .before .before .before .before .before .before .before .before .before .before .enum-told .given .1, sym (c .before .before .before .before .before .before .before .lists-cause .ensures .0) ∙ c .before .lists .given .1)
+returns-2 c = let l = c .before .before .before .before .before .before .before in rw (within l, sym (l .lists-cause .ensures .0) ∙ c .before .lists .given .1)
 
 loaded-cause-requires : tie.Need-loaded-cause-requires
 loaded-cause-requires c κs =
-    let none = c .before .before .before .enum-told2 .given .1 in
-    let lists = c .before .before .before .before .before .before .before .before .before .lists-cause .ensures in
-    (record { opened = c .before .before .before .before .before .before .before .before .before .before .before .before .before .before .before .before .before .before .before .before .before .before .before .before .pre .0; vertices = verts-read (c .before .before .before .before .before .before .before .before .before .before .before .before .before .before .before .before .before .before); faces = lists .1 none .0; order = lists .1 none .1 }, sym (lists .0) ∙ none)
+    let told = c .before .before .before in
+    let l = told .before .before .before .before .before .before in
+    let r = read (tried l) in
+    (record { opened = start r .pre .0; vertices = verts-read r; faces = l .lists-cause .ensures .1 .0; order = l .lists-cause .ensures .1 .1 }, sym (l .lists-cause .ensures .0) ∙ told .enum-told2 .given .1)
 
 returns-3 : tie.Need-returns-3
 unfolding bodyCause
 returns-3 c =
-    rw (sym (c .before .before .before .before .before .before .before .before .before .before .before .before .before .before .before .out-of-limits .ensures) ∙ c .before .before .before .before .before .before .before .before .before .before .before .before .before .enum-told .given .1, sym (c .before .before .before .before .before .before .before .before .before .before .lists-cause .ensures .0) ∙ c .before .before .before .before .enum-told2 .given .1) (c .loaded-cause .ensures)
+    let told = c .before .before .before .before in
+    let l = told .before .before .before .before .before .before in
+    rw (within l, sym (l .lists-cause .ensures .0) ∙ told .enum-told2 .given .1) (c .loaded-cause .ensures)
 
 pub body-cause-spec : {M : Type 1} → statement M
 body-cause-spec =
     tie.close
     (tie.spec
     (λ c κs. search needs)
-    out-of-limits-requires
+    (λ c κs. let r = c .before .before .before in (start r .pre .0, verts-read r))
     (λ c. search needs)
     (λ c. search needs)
     returns

@@ -1,28 +1,36 @@
 -- `checker::in_room` meets its contract: the prefixes are as long as the lists. Assumes nothing.
-use mathlib.Core.Path.{sym, _∙_}
+use mathlib.Core.Path.{_≡_, sym, _∙_}
 use Prim.Native.Nat.{_*_}
 use native.Mathlib.Omega.{arith}
+use lib.ListN.{length, take}
 use lib.Seq.{length-take-le}
+use denote.Ref.{now}
 use borrow.Author.Needs.{needs}
 use Rattle.checker.proofs.in_room.Statement.{statement}
 use Rattle.checker.proofs.in_room.Tie as tie
 
-slice-aggregate-body-cause : tie.Need-slice-aggregate-body-cause
-slice-aggregate-body-cause c = sym (length-take-le (3 * c .before .before .vertices .result) (c .before .before .before .before .before .before .before .args .verts .now) (omega (arith, c .before .before .vertices .ensures, c .before .before .before .before .before .before .before .pre .1)))
+-- where the call begins
+abbrev start : tie.After-faces → tie.Start
+start c = c .before .before .before .before .before .before
 
-slice-aggregate-body-cause-2 : tie.Need-slice-aggregate-body-cause-2
-slice-aggregate-body-cause-2 c = sym (length-take-le (3 * c .before .before .faces .result) (c .before .before .before .before .before .before .before .before .args .faces .now) (omega (arith, c .before .before .faces .ensures, c .before .before .before .before .before .before .before .before .pre .2)))
+verts-length : (c : tie.After-faces) → length (take (3 * c .before .vertices .result) (now (start c .args .verts))) ≡ 3 * c .before .vertices .result
+verts-length c = length-take-le (3 * c .before .vertices .result) (now (start c .args .verts)) (omega (arith, c .before .vertices .ensures, start c .pre .1))
 
-slice-aggregate-body-cause-3 : tie.Need-slice-aggregate-body-cause-3
-slice-aggregate-body-cause-3 c = sym (length-take-le (3 * c .before .before .before .faces .result) (c .before .before .before .before .before .before .before .before .before .args .order .now) (omega (arith, c .before .before .before .faces .ensures, c .before .before .before .before .before .before .before .before .before .pre .3)))
+faces-length : (c : tie.After-faces) → length (take (3 * c .faces .result) (now (start c .args .faces))) ≡ 3 * c .faces .result
+faces-length c = length-take-le (3 * c .faces .result) (now (start c .args .faces)) (omega (arith, c .faces .ensures, start c .pre .2))
+
+order-length : (c : tie.After-faces) → length (take (3 * c .faces .result) (now (start c .args .order))) ≡ 3 * c .faces .result
+order-length c = length-take-le (3 * c .faces .result) (now (start c .args .order)) (omega (arith, c .faces .ensures, start c .pre .3))
 
 body-cause-requires : tie.Need-body-cause-requires
-body-cause-requires c κs = (
-  c .before .before .before .before .before .before .before .before .before .pre .0,
-  length-take-le (3 * c .before .before .before .before .vertices .result) (c .before .before .before .before .before .before .before .before .before .args .verts .now) (omega (arith, c .before .before .before .before .vertices .ensures, c .before .before .before .before .before .before .before .before .before .pre .1)) ∙ omega (arith, c .before .before .before .before .vertices .ensures),
-  length-take-le (3 * c .before .before .before .faces .result) (c .before .before .before .before .before .before .before .before .before .args .faces .now) (omega (arith, c .before .before .before .faces .ensures, c .before .before .before .before .before .before .before .before .before .pre .2)) ∙ omega (arith, c .before .before .before .faces .ensures),
-  length-take-le (3 * c .before .before .before .faces .result) (c .before .before .before .before .before .before .before .before .before .args .order .now) (omega (arith, c .before .before .before .faces .ensures, c .before .before .before .before .before .before .before .before .before .pre .3)) ∙ omega (arith, c .before .before .before .faces .ensures),
-)
+body-cause-requires c κs =
+    let f = c .before .before .before in
+    let v = f .before .vertices .ensures in (
+      start f .pre .0,
+      verts-length f ∙ omega (arith, v),
+      faces-length f ∙ omega (arith, f .faces .ensures),
+      order-length f ∙ omega (arith, f .faces .ensures),
+    )
 
 pub in-room-spec : {M : Type 1} → statement M
 in-room-spec =
@@ -35,11 +43,11 @@ in-room-spec =
     (λ c. search needs)
     (λ c. search needs)
     (λ c. search needs)
-    slice-aggregate-body-cause
+    (λ c. sym (verts-length (c .before)))
     (λ c. search needs)
-    slice-aggregate-body-cause-2
+    (λ c. sym (faces-length (c .before .before)))
     (λ c. search needs)
-    slice-aggregate-body-cause-3
+    (λ c. sym (order-length (c .before .before .before)))
     body-cause-requires
     (λ c. search needs)
     (λ c. search needs)

@@ -16,8 +16,9 @@ returns c = rw (sym (c .before .before .before .volume-cause .ensures) ∙ c .be
 
 stations-cause-requires : tie.Need-stations-cause-requires
 stations-cause-requires c κs =
-    let a = c .before .before .before .before .before .before .before .args in
-    let h = c .before .before .before .before .before .before .before .pre in (
+    let st = c .before .before .before .before .before .before .before in
+    let a = st .args in
+    let h = st .pre in (
       now-ready (now (a .sheet)) (now (a .verts)) (now (a .faces)) (now (a .order)) (h .0) (h .1),
       in-order (now (a .sheet)) (now (a .verts)) (now (a .faces)) (now (a .order)) (h .0) (h .1),
     )

@@ -53,13 +53,15 @@ loop-holds c = (omega arith, none _)
 
 station-cause-requires : tie.Need-station-cause-requires Inv-loop μ-loop
 unfolding parse
-station-cause-requires c κs = (
-  c .before .before .before .before .before .before .before .before .before .before .before .before .pre .0,
-  rw (← c .before .before .before .before .before .before .before .kind .ensures) (c .before .before .before .before .before .before .center-of .ensures),
-  omega arith,
-  c .before .before .before .before .vector-at .ensures ∙ rw (c .before .before .before .before .before .trailer .ensures),
-  c .before .before .before .vector-at2 .ensures ∙ rw (c .before .before .before .before .before .trailer .ensures),
-)
+station-cause-requires c κs =
+    let t = c .before .before .before .before .before in
+    let center = t .before in (
+      center .before .before .before .before .before .before .pre .0,
+      rw (← center .before .kind .ensures) (center .center-of .ensures),
+      omega arith,
+      c .before .before .before .before .vector-at .ensures ∙ rw (t .trailer .ensures),
+      c .before .before .before .vector-at2 .ensures ∙ rw (t .trailer .ensures),
+    )
 
 enum-known-cause : tie.Need-enum-known-cause Inv-loop μ-loop
 enum-known-cause c = search needs

@@ -1,5 +1,5 @@
 -- `mesh::scan::no_such_vertex` meets its contract: the corners so far name vertices. Assumes nothing.
-use mathlib.Core.Path.{_≡_}
+use mathlib.Core.Path.{_≡_, sym}
 use Prim.Native.Nat.{_-_, _/_, _≤_}
 use native.Mathlib.Omega.{arith}
 use lib.ListN.{length}
@@ -19,35 +19,34 @@ Inv-loop vertices faces i₀ i = (i ≤ length faces) × (firstOf i (λ j. unles
 abbrev μ-loop : tie.MeasureT-loop
 μ-loop vertices faces i₀ i = length faces - i
 
+returns : tie.Need-returns Inv-loop μ-loop
+returns c = sym (c .before .all-name-vertices .ensures (c .if1 .taken))
+
 loop-holds : tie.Need-loop-holds Inv-loop μ-loop
 loop-holds c =
-    let f = now (c .args .faces) in
-    (omega arith, scan-start (length f) (namesVertex (c .args .vertices) f) (λ i. NoSuchVertex (i / 3)))
-
-cast-if1 : tie.Need-cast-if1 Inv-loop μ-loop
-cast-if1 c = omega (arith, c .shared-slice-known .given (c .before .before .loop .i))
-
-returns : tie.Need-returns Inv-loop μ-loop
-unfolding noSuchVertex
-returns c =
-    let at = c .before .before .before in
-    let f = now (at .before .args .faces) in
-    scan-stop (length f) (namesVertex (at .before .args .vertices) f) (λ i. NoSuchVertex (i / 3)) (at .loop .i) (omega arith) (at .loop .inv .1)
-    (le-ltb _ _ (c .if1 .taken))
-
-loop-again : tie.Need-loop-again Inv-loop μ-loop
-loop-again c =
-    let at = c .before .before .before in
-    let f = now (at .before .args .faces) in (
-      omega arith,
-      scan-more (length f) (namesVertex (at .before .args .vertices) f) (λ i. NoSuchVertex (i / 3)) (at .loop .i) (at .loop .inv .1)
-          (lt-ltb _ _ (c .if1 .left)),
-    )
+    let st = c .before .before .before in
+    let f = now (st .args .faces) in
+    (omega arith, scan-start (length f) (namesVertex (st .args .vertices) f) (λ i. NoSuchVertex (i / 3)))
 
 returns-2 : tie.Need-returns-2 Inv-loop μ-loop
 unfolding noSuchVertex
 returns-2 c =
-    let st = c .before .before in
+    let turn = c .before .before .before in
+    let st = turn .before .before .before .before in
+    let f = now (st .args .faces) in
+    scan-stop (length f) (namesVertex (st .args .vertices) f) (λ i. NoSuchVertex (i / 3)) (turn .loop .i) (omega arith) (turn .loop .inv .1) (le-ltb _ _ (c .if2 .taken))
+
+loop-again : tie.Need-loop-again Inv-loop μ-loop
+loop-again c =
+    let turn = c .before .before .before in
+    let st = turn .before .before .before .before in
+    let f = now (st .args .faces) in
+    (omega arith, scan-more (length f) (namesVertex (st .args .vertices) f) (λ i. NoSuchVertex (i / 3)) (turn .loop .i) (turn .loop .inv .1) (lt-ltb _ _ (c .if2 .left)))
+
+returns-3 : tie.Need-returns-3 Inv-loop μ-loop
+unfolding noSuchVertex
+returns-3 c =
+    let st = c .before .before .before .before .before in
     let f = now (st .args .faces) in
     scan-end (length f) (namesVertex (st .args .vertices) f) (λ i. NoSuchVertex (i / 3)) (c .before .loop .i) (omega arith) (omega arith) (c .before .loop .inv .1)
 
@@ -57,13 +56,15 @@ no-such-vertex-spec =
     (tie.spec
     Inv-loop
     μ-loop
+    (λ c κs. tt)
+    returns
     loop-holds
     (λ c. omega arith)
     (λ c. omega arith)
-    cast-if1
+    (λ c. omega (arith, c .shared-slice-known2 .given (c .before .before .loop .i)))
     (λ c. omega arith)
-    returns
+    returns-2
     (λ c. omega arith)
     (λ c. omega arith)
     loop-again
-    returns-2)
+    returns-3)

@@ -1,0 +1,86 @@
+-- `checker::rooms::from_room` meets its contract. The measure is how far the room's size is from the greatest that is asked for. Assumes nothing.
+use Prim.Native.Nat.{ℕ, _*_, _-_, _≤_, _<_}
+use mathlib.Core.Path.{_≡_, sym, _∙_}
+use mathlib.Core.Bool.{true, false, _&&_}
+use mathlib.Core.List.{List}
+use mathlib.Core.Logic.{⊎-elim}
+use native.Mathlib.Omega.{arith}
+use lib.Dec.{leb}
+use denote.Ref.{now}
+use borrow.Author.Tests.{not-true, not-false}
+use borrow.Author.Needs.{needs}
+use borrow.Fn.Kinds.{In}
+use borrow.Fn.PlainCycle.{Measures, is, falls, and}
+use Rattle.lists.proofs.Numbers.{below?, both-within, not-both-within}
+use Rattle.sheet.specs.Checker.{verticesIn, facesIn}
+use Rattle.readers.specs.Opened.{Opened}
+use Rattle.checker.proofs.rooms.from_room.Reads as from-room
+use Rattle.checker.proofs.rooms.from_room.Kinds as from-room-kinds
+use Rattle.checker.proofs.rooms.+from_room.Lts-from_room as from-room-lts
+use Rattle.checker.proofs.rooms.fits.Reads as fits-reads
+use Rattle.checker.proofs.rooms.larger.Reads as larger-reads
+use Rattle.checker.proofs.rooms.in_room_32.Reads as in-room-32-reads
+use Rattle.checker.proofs.rooms.in_room_256.Reads as in-room-256-reads
+use Rattle.checker.proofs.rooms.in_room_1024.Reads as in-room-1024-reads
+use Rattle.checker.proofs.rooms.in_room_4096.Reads as in-room-4096-reads
+use Rattle.checker.proofs.rooms.in_room_all.Reads as in-room-all-reads
+use Rattle.checker.proofs.rooms.+from_room.{statement}
+use Rattle.checker.proofs.rooms.+from_room.Tie.{close}
+
+abbrev μ-from-room : Measures 1 from-room-kinds.ps ℕ
+μ-from-room κs a = 80000 - a .1 .0
+
+abbrev from-room-at : ℕ → In 1 from-room-kinds.ps
+from-room-at t = and 1 from-room-kinds.ps (is 1 from-room-kinds.ps μ-from-room t) from-room.Pre
+
+abbrev from-room-below : ℕ → In 1 from-room-kinds.ps
+from-room-below t = and 1 from-room-kinds.ps (falls 1 from-room-kinds.ps _<_ μ-from-room t) from-room.Pre
+
+-- the largest room holds every body
+not-largest : (b : List ℕ) (n : ℕ) → Opened b → (leb (verticesIn b) n && leb (facesIn b) (2 * n)) ≡ false → n < 20000
+not-largest b n h e =
+    ⊎-elim (λ l. l) (λ g. absurd (not-both-within (verticesIn b) (facesIn b) n (2 * n) e (omega (arith, h .vertices)) (omega (arith, h .faces)))) (below? n 20000)
+
+-- the room of size m holds this one
+held : (b : List ℕ) (n m : ℕ) → n ≡ m → Opened b → (leb (verticesIn b) n && leb (facesIn b) (2 * n)) ≡ true → Opened b × (verticesIn b ≤ m) × (facesIn b ≤ 2 * m)
+held b n m q h e = let w = both-within (verticesIn b) (facesIn b) n (2 * n) e in (h, omega (arith, w .0), omega (arith, w .1))
+
+pub +from-room-spec : {M : Type 1} → statement M
++from-room-spec = close μ-from-room λ t. from-room-lts.spec (
+  fits-reads.Asked,
+  fits-reads.Learnt,
+  larger-reads.Asked,
+  larger-reads.Learnt,
+  from-room-below t,
+  from-room.Post,
+  in-room-32-reads.Asked,
+  in-room-32-reads.Learnt,
+  in-room-256-reads.Asked,
+  in-room-256-reads.Learnt,
+  in-room-1024-reads.Asked,
+  in-room-1024-reads.Learnt,
+  in-room-4096-reads.Asked,
+  in-room-4096-reads.Learnt,
+  in-room-all-reads.Asked,
+  in-room-all-reads.Learnt,
+)
+    (from-room-at t)
+    from-room.Post
+    (λ c κs. search needs)
+    (λ c κs.
+    let st = c .before .before .before in
+    not-largest (now (st .args .sheet)) (st .args .n) (st .pre .1 .0) (sym (c .before .fits2 .ensures) ∙ not-true _ (c .if1 .taken)))
+    (λ c κs.
+    let st = c .before .before .before .before in
+    (omega (arith, st .pre .0, c .larger .ensures .0), (st .pre .1 .0, c .larger .ensures .1)))
+    (λ c. search needs)
+    (λ c κs. let st = c .before .before .before .before in held (now (st .args .sheet)) (st .args .n) 32 (c .match .keys1) (st .pre .1 .0) (sym (c .before .before .fits2 .ensures) ∙ not-false _ (c .before .if1 .left)))
+    (λ c κs. let st = c .before .before .before .before in held (now (st .args .sheet)) (st .args .n) 256 (c .match .keys2) (st .pre .1 .0) (sym (c .before .before .fits2 .ensures) ∙ not-false _ (c .before .if1 .left)))
+    (λ c κs. let st = c .before .before .before .before in held (now (st .args .sheet)) (st .args .n) 1024 (c .match .keys3) (st .pre .1 .0) (sym (c .before .before .fits2 .ensures) ∙ not-false _ (c .before .if1 .left)))
+    (λ c κs. let st = c .before .before .before .before in held (now (st .args .sheet)) (st .args .n) 4096 (c .match .keys4) (st .pre .1 .0) (sym (c .before .before .fits2 .ensures) ∙ not-false _ (c .before .if1 .left)))
+    (λ c κs. search needs)
+    (λ c. search needs)
+    (λ c. search needs)
+    (λ c. search needs)
+    (λ c. search needs)
+    (λ c. search needs)
