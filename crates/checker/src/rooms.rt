@@ -1,4 +1,4 @@
-// Room for a body's vertices, faces and order list, in five sizes: to clear the largest takes longer than to check a small body.
+// Room for a body's vertices, faces and order list, in six sizes: to clear the largest takes longer than to check a small body.
 ghost use mathlib.Core.Path.{_≡_};
 ghost use mathlib.Core.Bool.{_&&_};
 ghost use Prim.Native.Nat.{_*_, _≤_, _<_};
@@ -10,53 +10,65 @@ ghost use Rattle.body_checks.specs.Stages.{bodyCause};
 use crate::in_room;
 use refusals::Cause;
 
-// A caller need know no more of a room than how much it is. `vertices_32` is for 32 vertices, `uses_32` for the edge uses of twice as many faces.
-fn vertices_32() -> [f64; 96]
-    ensures { λ r. ⌜ length r ≡ 96 ⌝ }
+// A caller need know no more of a room than how much it is. `vertices_40` is for 40 vertices, `uses_40` for the edge uses of twice as many faces.
+fn vertices_40() -> [f64; 120]
+    ensures { λ r. ⌜ length r ≡ 120 ⌝ }
 {
-    [0.0; 96]
+    [0.0; 120]
 }
 
-fn uses_32() -> [u32; 192]
-    ensures { λ r. ⌜ length r ≡ 192 ⌝ }
+fn uses_40() -> [u32; 240]
+    ensures { λ r. ⌜ length r ≡ 240 ⌝ }
 {
-    [0; 192]
+    [0; 240]
 }
 
-fn vertices_256() -> [f64; 768]
-    ensures { λ r. ⌜ length r ≡ 768 ⌝ }
+fn vertices_160() -> [f64; 480]
+    ensures { λ r. ⌜ length r ≡ 480 ⌝ }
 {
-    [0.0; 768]
+    [0.0; 480]
 }
 
-fn uses_256() -> [u32; 1536]
-    ensures { λ r. ⌜ length r ≡ 1536 ⌝ }
+fn uses_160() -> [u32; 960]
+    ensures { λ r. ⌜ length r ≡ 960 ⌝ }
 {
-    [0; 1536]
+    [0; 960]
 }
 
-fn vertices_1024() -> [f64; 3072]
-    ensures { λ r. ⌜ length r ≡ 3072 ⌝ }
+fn vertices_640() -> [f64; 1920]
+    ensures { λ r. ⌜ length r ≡ 1920 ⌝ }
 {
-    [0.0; 3072]
+    [0.0; 1920]
 }
 
-fn uses_1024() -> [u32; 6144]
-    ensures { λ r. ⌜ length r ≡ 6144 ⌝ }
+fn uses_640() -> [u32; 3840]
+    ensures { λ r. ⌜ length r ≡ 3840 ⌝ }
 {
-    [0; 6144]
+    [0; 3840]
 }
 
-fn vertices_4096() -> [f64; 12288]
-    ensures { λ r. ⌜ length r ≡ 12288 ⌝ }
+fn vertices_2560() -> [f64; 7680]
+    ensures { λ r. ⌜ length r ≡ 7680 ⌝ }
 {
-    [0.0; 12288]
+    [0.0; 7680]
 }
 
-fn uses_4096() -> [u32; 24576]
-    ensures { λ r. ⌜ length r ≡ 24576 ⌝ }
+fn uses_2560() -> [u32; 15360]
+    ensures { λ r. ⌜ length r ≡ 15360 ⌝ }
 {
-    [0; 24576]
+    [0; 15360]
+}
+
+fn vertices_10240() -> [f64; 30720]
+    ensures { λ r. ⌜ length r ≡ 30720 ⌝ }
+{
+    [0.0; 30720]
+}
+
+fn uses_10240() -> [u32; 61440]
+    ensures { λ r. ⌜ length r ≡ 61440 ⌝ }
+{
+    [0; 61440]
 }
 
 fn vertices_all() -> [f64; 60000]
@@ -71,47 +83,58 @@ fn uses_all() -> [u32; 98304]
     [0; 98304]
 }
 
-// At most 32 vertices and 64 faces.
-fn in_room_32(sheet: &[u8]) -> Cause
-    requires { ⌜ Opened (now sheet) × (verticesIn (now sheet) ≤ 32) × (facesIn (now sheet) ≤ 64) ⌝ }
+// At most 40 vertices and 80 faces.
+fn in_room_40(sheet: &[u8]) -> Cause
+    requires { ⌜ Opened (now sheet) × (verticesIn (now sheet) ≤ 40) × (facesIn (now sheet) ≤ 80) ⌝ }
     ensures { λ r. ⌜ r ≡ bodyCause (now (sheet .entry)) ⌝ }
 {
-    let mut verts = vertices_32();
-    let mut faces = uses_32();
-    let mut order = uses_32();
+    let mut verts = vertices_40();
+    let mut faces = uses_40();
+    let mut order = uses_40();
     in_room(sheet, &mut verts, &mut faces, &mut order)
 }
 
-// At most 256 vertices and 512 faces.
-fn in_room_256(sheet: &[u8]) -> Cause
-    requires { ⌜ Opened (now sheet) × (verticesIn (now sheet) ≤ 256) × (facesIn (now sheet) ≤ 512) ⌝ }
+// At most 160 vertices and 320 faces.
+fn in_room_160(sheet: &[u8]) -> Cause
+    requires { ⌜ Opened (now sheet) × (verticesIn (now sheet) ≤ 160) × (facesIn (now sheet) ≤ 320) ⌝ }
     ensures { λ r. ⌜ r ≡ bodyCause (now (sheet .entry)) ⌝ }
 {
-    let mut verts = vertices_256();
-    let mut faces = uses_256();
-    let mut order = uses_256();
+    let mut verts = vertices_160();
+    let mut faces = uses_160();
+    let mut order = uses_160();
     in_room(sheet, &mut verts, &mut faces, &mut order)
 }
 
-// At most 1,024 vertices and 2,048 faces.
-fn in_room_1024(sheet: &[u8]) -> Cause
-    requires { ⌜ Opened (now sheet) × (verticesIn (now sheet) ≤ 1024) × (facesIn (now sheet) ≤ 2048) ⌝ }
+// At most 640 vertices and 1,280 faces.
+fn in_room_640(sheet: &[u8]) -> Cause
+    requires { ⌜ Opened (now sheet) × (verticesIn (now sheet) ≤ 640) × (facesIn (now sheet) ≤ 1280) ⌝ }
     ensures { λ r. ⌜ r ≡ bodyCause (now (sheet .entry)) ⌝ }
 {
-    let mut verts = vertices_1024();
-    let mut faces = uses_1024();
-    let mut order = uses_1024();
+    let mut verts = vertices_640();
+    let mut faces = uses_640();
+    let mut order = uses_640();
     in_room(sheet, &mut verts, &mut faces, &mut order)
 }
 
-// At most 4,096 vertices and 8,192 faces.
-fn in_room_4096(sheet: &[u8]) -> Cause
-    requires { ⌜ Opened (now sheet) × (verticesIn (now sheet) ≤ 4096) × (facesIn (now sheet) ≤ 8192) ⌝ }
+// At most 2,560 vertices and 5,120 faces.
+fn in_room_2560(sheet: &[u8]) -> Cause
+    requires { ⌜ Opened (now sheet) × (verticesIn (now sheet) ≤ 2560) × (facesIn (now sheet) ≤ 5120) ⌝ }
     ensures { λ r. ⌜ r ≡ bodyCause (now (sheet .entry)) ⌝ }
 {
-    let mut verts = vertices_4096();
-    let mut faces = uses_4096();
-    let mut order = uses_4096();
+    let mut verts = vertices_2560();
+    let mut faces = uses_2560();
+    let mut order = uses_2560();
+    in_room(sheet, &mut verts, &mut faces, &mut order)
+}
+
+// At most 10,240 vertices and 20,480 faces.
+fn in_room_10240(sheet: &[u8]) -> Cause
+    requires { ⌜ Opened (now sheet) × (verticesIn (now sheet) ≤ 10240) × (facesIn (now sheet) ≤ 20480) ⌝ }
+    ensures { λ r. ⌜ r ≡ bodyCause (now (sheet .entry)) ⌝ }
+{
+    let mut verts = vertices_10240();
+    let mut faces = uses_10240();
+    let mut order = uses_10240();
     in_room(sheet, &mut verts, &mut faces, &mut order)
 }
 
@@ -137,30 +160,21 @@ fn fits(sheet: &[u8], n: u32) -> bool
     readers::faces(sheet) <= 2 * n
 }
 
-fn larger(n: u32) -> u32
-    requires { ⌜ n < 20000 ⌝ }
-    ensures { λ r. ⌜ (n < r) × (r < 80000) ⌝ }
-{
-    if n < 256 {
-        return 256;
-    }
-    4 * n
-}
-
 // The causes after 16, 1 and 2, in the room for n vertices or, where that does not hold the body, in the next larger one. It calls itself, and so the compiler
 // keeps the rooms apart; in one function every body would pay for the stack of the largest.
 fn from_room(sheet: &[u8], n: u32) -> Cause
-    requires { ⌜ Opened (now sheet) × (n < 80000) ⌝ }
+    requires { ⌜ Opened (now sheet) × (0 < n) × (n < 80000) ⌝ }
     ensures { λ r. ⌜ r ≡ bodyCause (now (sheet .entry)) ⌝ }
 {
     if !fits(sheet, n) {
-        return from_room(sheet, larger(n));
+        return from_room(sheet, 4 * n);
     }
     match n {
-        32 => in_room_32(sheet),
-        256 => in_room_256(sheet),
-        1024 => in_room_1024(sheet),
-        4096 => in_room_4096(sheet),
+        40 => in_room_40(sheet),
+        160 => in_room_160(sheet),
+        640 => in_room_640(sheet),
+        2560 => in_room_2560(sheet),
+        10240 => in_room_10240(sheet),
         _ => in_room_all(sheet),
     }
 }
@@ -170,5 +184,5 @@ pub(crate) fn body_cause(sheet: &[u8]) -> Cause
     requires { ⌜ Opened (now sheet) ⌝ }
     ensures { λ r. ⌜ r ≡ bodyCause (now (sheet .entry)) ⌝ }
 {
-    from_room(sheet, 32)
+    from_room(sheet, 40)
 }

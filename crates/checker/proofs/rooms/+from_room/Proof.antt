@@ -18,11 +18,11 @@ use Rattle.checker.proofs.rooms.from_room.Reads as from-room
 use Rattle.checker.proofs.rooms.from_room.Kinds as from-room-kinds
 use Rattle.checker.proofs.rooms.+from_room.Lts-from_room as from-room-lts
 use Rattle.checker.proofs.rooms.fits.Reads as fits-reads
-use Rattle.checker.proofs.rooms.larger.Reads as larger-reads
-use Rattle.checker.proofs.rooms.in_room_32.Reads as in-room-32-reads
-use Rattle.checker.proofs.rooms.in_room_256.Reads as in-room-256-reads
-use Rattle.checker.proofs.rooms.in_room_1024.Reads as in-room-1024-reads
-use Rattle.checker.proofs.rooms.in_room_4096.Reads as in-room-4096-reads
+use Rattle.checker.proofs.rooms.in_room_40.Reads as in-room-40-reads
+use Rattle.checker.proofs.rooms.in_room_160.Reads as in-room-160-reads
+use Rattle.checker.proofs.rooms.in_room_640.Reads as in-room-640-reads
+use Rattle.checker.proofs.rooms.in_room_2560.Reads as in-room-2560-reads
+use Rattle.checker.proofs.rooms.in_room_10240.Reads as in-room-10240-reads
 use Rattle.checker.proofs.rooms.in_room_all.Reads as in-room-all-reads
 use Rattle.checker.proofs.rooms.+from_room.{statement}
 use Rattle.checker.proofs.rooms.+from_room.Tie.{close}
@@ -49,36 +49,38 @@ pub +from-room-spec : {M : Type 1} → statement M
 +from-room-spec = close μ-from-room λ t. from-room-lts.spec (
   fits-reads.Asked,
   fits-reads.Learnt,
-  larger-reads.Asked,
-  larger-reads.Learnt,
   from-room-below t,
   from-room.Post,
-  in-room-32-reads.Asked,
-  in-room-32-reads.Learnt,
-  in-room-256-reads.Asked,
-  in-room-256-reads.Learnt,
-  in-room-1024-reads.Asked,
-  in-room-1024-reads.Learnt,
-  in-room-4096-reads.Asked,
-  in-room-4096-reads.Learnt,
+  in-room-40-reads.Asked,
+  in-room-40-reads.Learnt,
+  in-room-160-reads.Asked,
+  in-room-160-reads.Learnt,
+  in-room-640-reads.Asked,
+  in-room-640-reads.Learnt,
+  in-room-2560-reads.Asked,
+  in-room-2560-reads.Learnt,
+  in-room-10240-reads.Asked,
+  in-room-10240-reads.Learnt,
   in-room-all-reads.Asked,
   in-room-all-reads.Learnt,
 )
     (from-room-at t)
     from-room.Post
     (λ c κs. search needs)
+    (λ c. search needs)
     (λ c κs.
     let st = c .before .before .before in
-    not-largest (now (st .args .sheet)) (st .args .n) (st .pre .1 .0) (sym (c .before .fits2 .ensures) ∙ not-true _ (c .if1 .taken)))
-    (λ c κs.
-    let st = c .before .before .before .before in
-    (omega (arith, st .pre .0, c .larger .ensures .0), (st .pre .1 .0, c .larger .ensures .1)))
+    let h = st .pre .1 in
+    let l = not-largest (now (st .args .sheet)) (st .args .n) (h .0) (sym (c .before .fits2 .ensures) ∙ not-true _ (c .if1 .taken)) in
+    (omega (arith, st .pre .0, h .1), (h .0, omega (arith, h .1), omega (arith, l))))
     (λ c. search needs)
-    (λ c κs. let st = c .before .before .before .before in held (now (st .args .sheet)) (st .args .n) 32 (c .match .keys1) (st .pre .1 .0) (sym (c .before .before .fits2 .ensures) ∙ not-false _ (c .before .if1 .left)))
-    (λ c κs. let st = c .before .before .before .before in held (now (st .args .sheet)) (st .args .n) 256 (c .match .keys2) (st .pre .1 .0) (sym (c .before .before .fits2 .ensures) ∙ not-false _ (c .before .if1 .left)))
-    (λ c κs. let st = c .before .before .before .before in held (now (st .args .sheet)) (st .args .n) 1024 (c .match .keys3) (st .pre .1 .0) (sym (c .before .before .fits2 .ensures) ∙ not-false _ (c .before .if1 .left)))
-    (λ c κs. let st = c .before .before .before .before in held (now (st .args .sheet)) (st .args .n) 4096 (c .match .keys4) (st .pre .1 .0) (sym (c .before .before .fits2 .ensures) ∙ not-false _ (c .before .if1 .left)))
+    (λ c κs. let st = c .before .before .before .before in held (now (st .args .sheet)) (st .args .n) 40 (c .match .keys1) (st .pre .1 .0) (sym (c .before .before .fits2 .ensures) ∙ not-false _ (c .before .if1 .left)))
+    (λ c κs. let st = c .before .before .before .before in held (now (st .args .sheet)) (st .args .n) 160 (c .match .keys2) (st .pre .1 .0) (sym (c .before .before .fits2 .ensures) ∙ not-false _ (c .before .if1 .left)))
+    (λ c κs. let st = c .before .before .before .before in held (now (st .args .sheet)) (st .args .n) 640 (c .match .keys3) (st .pre .1 .0) (sym (c .before .before .fits2 .ensures) ∙ not-false _ (c .before .if1 .left)))
+    (λ c κs. let st = c .before .before .before .before in held (now (st .args .sheet)) (st .args .n) 2560 (c .match .keys4) (st .pre .1 .0) (sym (c .before .before .fits2 .ensures) ∙ not-false _ (c .before .if1 .left)))
+    (λ c κs. let st = c .before .before .before .before in held (now (st .args .sheet)) (st .args .n) 10240 (c .match .keys5) (st .pre .1 .0) (sym (c .before .before .fits2 .ensures) ∙ not-false _ (c .before .if1 .left)))
     (λ c κs. search needs)
+    (λ c. search needs)
     (λ c. search needs)
     (λ c. search needs)
     (λ c. search needs)
