@@ -199,31 +199,32 @@ fn sheets(b: &Bench, r: &mut Random) {
 }
 
 /// The best time of each part, in seconds, taken in alternation.
-fn best_of(turns: usize, parts: [&dyn Fn(); 3]) -> [f64; 3] {
+fn best_of(turns: usize, parts: [&dyn Fn(); 4]) -> [f64; 4] {
     let round = |f: &dyn Fn(), reps: usize| {
         let t = Instant::now();
         (0..reps).for_each(|_| f());
         t.elapsed().as_secs_f64() / reps as f64
     };
     let reps = parts.map(|f| (2e-3 / round(f, 1).max(1e-7)).ceil() as usize);
-    let mut best = [f64::MAX; 3];
+    let mut best = [f64::MAX; 4];
     for _ in 0..turns {
-        for k in 0..3 {
+        for k in 0..4 {
             best[k] = best[k].min(round(parts[k], reps[k]));
         }
     }
     best
 }
 
-/// What checking a mesh sheet takes, against the fields of its stations near the body: a field is `polyhedron` less `check_mesh`.
+/// What checking a mesh sheet takes, against the fields of its stations near the body: those of a station are `polyhedron` less `check_mesh`, then `body` and `total_field`.
 fn checking(turns: usize) {
     println!("\n| sheet | check_sheet | its fields | ratio |\n|---|---|---|---|");
-    for (n, count) in [(3, 1), (3, 8), (9, 1), (9, 2), (17, 1), (17, 2), (65, 1), (65, 2)] {
+    for (n, count) in [(2, 1), (2, 8), (3, 1), (3, 2), (5, 1), (9, 1), (9, 2), (17, 1), (17, 2), (33, 1), (65, 1), (65, 2)] {
         let m = sphere(n);
         let v = points(&m.verts);
         let body = physica::Body::Mesh { verts: &v, faces: m.faces.as_chunks::<3>().0 };
-        let p = [1.1, 0.9, 1.2];
-        let sheet = physica::write_sheet(body, [1.0, 2.0, -2.0], [2e-5, 0.0, 4.5e-5], &vec![p; count]).unwrap();
+        let (p, magnetisation, ambient): (V3, V3, V3) = ([1.1, 0.9, 1.2], [1.0, 2.0, -2.0], [2e-5, 0.0, 4.5e-5]);
+        let sheet = physica::write_sheet(body, magnetisation, ambient, &vec![p; count]).unwrap();
+        let hessian = [-1.0, 0.1, 0.2, 0.1, -1.5, 0.3, 0.2, 0.3, 2.5];
         let work = std::cell::RefCell::new(vec![0; m.room]);
         let times = best_of(turns, [
             &|| assert!(physica::check_sheet(black_box(&sheet)).is_ok()),
@@ -233,8 +234,13 @@ fn checking(turns: usize) {
                 assert_eq!(unsafe { ffi::physica_check_mesh(m.verts.as_ptr(), m.verts.len(), m.faces.as_ptr(), m.faces.len(), w.as_mut_ptr(), w.len(), &mut out, &mut values) }, 0);
                 black_box(out);
             },
+            &|| {
+                let (mut anomaly, mut total) = ([0.0; 3], 0.0);
+                assert_eq!(unsafe { ffi::physica_body(black_box(&hessian), &magnetisation, &mut anomaly) + ffi::physica_total_field(&ambient, &anomaly, &mut total) }, 0);
+                black_box(total);
+            },
         ]);
-        let fields = count as f64 * (times[1] - times[2]);
+        let fields = count as f64 * (times[1] - times[2] + times[3]);
         println!("| {} faces, {count} near | {} | {} | {:.3} |", m.faces.len() / 3, nanoseconds(times[0] * 1e9), nanoseconds(fields * 1e9), times[0] / fields);
     }
 }

@@ -1,6 +1,8 @@
 // Constants; bits, magnitude, sign, order and finiteness of an f64, on every bit pattern.
 ghost use mathlib.Core.Path.{_≡_};
-ghost use lib.Ieee.{binary64, ofBits, toBits};
+ghost use mathlib.Core.Bool.{not};
+ghost use lib.Dec.{T};
+ghost use lib.Ieee.{binary64, isNan, ofBits, toBits};
 ghost use lib.Ieee.Scale.{finite};
 ghost use Rattle.doubles.specs.Magnitude.{abs, max, min, negative, withinLimits};
 
@@ -31,6 +33,14 @@ pub fn to_bits(x: f64) -> u64
     f64::to_bits(x)
 }
 
+// |x| of a number.
+fn abs_number(x: f64) -> f64
+    requires { ⌜ T (not (isNan x)) ⌝ }
+    ensures { λ r. ⌜ r ≡ abs x ⌝ }
+{
+    f64::from_bits(f64::to_bits(x) & 0x7fff_ffff_ffff_ffff)
+}
+
 // |x|, a NaN staying one.
 pub fn abs(x: f64) -> f64
     ensures { λ r. ⌜ r ≡ abs x ⌝ }
@@ -38,7 +48,7 @@ pub fn abs(x: f64) -> f64
     if x != x {
         return x;
     }
-    f64::from_bits(f64::to_bits(x) & 0x7fff_ffff_ffff_ffff)
+    abs_number(x)
 }
 
 // The sign bit, of a zero too; false for a NaN.
@@ -75,12 +85,18 @@ pub fn min(x: f64, y: f64) -> f64
 pub fn is_finite(x: f64) -> bool
     ensures { λ r. ⌜ r ≡ finite x ⌝ }
 {
-    abs(x) < 1.0 / 0.0
+    if x != x {
+        return false;
+    }
+    abs_number(x) < 1.0 / 0.0
 }
 
 // The test of refusal 3: finite, and of magnitude at most 10⁹. The second implies the first.
 pub fn within_limits(x: f64) -> bool
     ensures { λ r. ⌜ r ≡ withinLimits x ⌝ }
 {
-    abs(x) <= 1e9
+    if x != x {
+        return false;
+    }
+    abs_number(x) <= 1e9
 }
