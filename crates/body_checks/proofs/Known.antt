@@ -2,30 +2,34 @@
 use mathlib.Core.Path.{_≡_, refl, sym, ap, ap₂, _∙_}
 use mathlib.Core.Bool.{Bool, true, false, _&&_, _||_}
 use mathlib.Core.List.{List}
-use Prim.Native.Nat.{ℕ, _*_, _/_}
+use Prim.Native.Nat.{ℕ, _*_, _/_, _≤_, _<_}
 use native.Mathlib.Omega.{arith}
-use lib.Dec.{eqb}
+use lib.Dec.{eqb, ltb}
 use lib.Ieee.{Float}
-use lib.ListN.{length}
+use lib.ListN.{length, getD}
 use borrow.Author.Tests.{eqb-true}
+use Rattle.refusals.specs.declared.Refusal.the-variants.{WrongMate}
 use Rattle.refusals.specs.declared.Cause.the-variants.{None}
 use Rattle.refusals.specs.Causes.{orElse}
 use Rattle.refusals.proofs.Causes.{both}
 use Rattle.lists.proofs.Numbers as numbers
+use Rattle.orders.specs.Edges.{from, to, edgeNumber, edge, reverse}
+use Rattle.orders.specs.EdgeLaws.{number-apart, small-from, small-to}
 use Rattle.orders.specs.Order.{orderList}
 use Rattle.mesh.specs.Surface.{Body}
 use Rattle.mesh.specs.Check as mesh
-use Rattle.mesh.specs.CauseLaws.{none-vertex}
+use Rattle.mesh.specs.CauseLaws.{none-each, none-vertex}
+use Rattle.edge_face_sums.specs.Logarithms.{Mated}
 use Rattle.rows.specs.Kinds.{isMesh, knownKind}
 use Rattle.sheet.specs.Writer.{noSuchVertex}
-use Rattle.sheet.specs.Checker.{kindIn, verticesIn, facesIn, facesStart, orderStart, matesStart, parse, orderIn, matesIn, wrongOrder, wrongMate}
+use Rattle.sheet.specs.Checker.{kindIn, verticesIn, facesIn, facesStart, orderStart, matesStart, parse, orderIn, matesIn, wrongOrder, isReverse, wrongMate}
 use Rattle.sheet.specs.OrderAndMates.{is-order}
 use Rattle.readers.specs.Opened.{Opened}
 use Rattle.sheet.specs.Reading.{faces-length}
 use Rattle.readers.proofs.Parsed.{vertices-length}
 use Rattle.layout.specs.LittleEndian.{unpack, doubles}
-use Rattle.layout.proofs.Lists.{unpack-length}
-use Rattle.body_checks.specs.Stages.{listsCause, Loaded, Ready}
+use Rattle.layout.proofs.Lists.{unpack-at, unpack-length}
+use Rattle.body_checks.specs.Stages.{listsCause, Loaded, MatesRead, Ready}
 
 second : (a b : Bool) → (a || b) ≡ true → a ≡ false → b ≡ true
 second true b e z = cc
@@ -47,6 +51,11 @@ module _ (b : List ℕ) {n : ℕ} where
   pub faces-loaded : {at : ℕ} → n ≡ 3 * facesIn b → at ≡ facesStart b → unpack 4 n b at ≡ parse b .faces
   unfolding parse
   faces-loaded e p = rw (e, p)
+
+  pub mates-loaded : {at : ℕ} (m : List ℕ) → m ≡ unpack 4 n b at → n ≤ 3 * facesIn b → at ≡ matesStart b → (length m ≡ n) × MatesRead b m
+  mates-loaded {at} m q h p =
+      let k : length m ≡ n = ap length q ∙ unpack-length 4 n b at in
+      (k, record { few = omega arith; mates = rw k (q ∙ ap (unpack 4 n b) p) })
 
   pub order-loaded : {at : ℕ} → n ≡ 3 * facesIn b → at ≡ orderStart b → unpack 4 n b at ≡ orderIn b
   order-loaded e p = rw (e, p)
@@ -72,11 +81,12 @@ module _ (b : List ℕ) (h : Opened b) where
     corners = λ z. omega (arith, vertices-length b, two-corners (kindIn b) (verticesIn b) (facesIn b) (h .known) z);
   }
 
-  none-order : listsCause b ≡ None → (noSuchVertex (parse b) ≡ None) × (wrongOrder (parse b .faces) (orderIn b) ≡ None)
+  none-order : listsCause b ≡ None → (noSuchVertex (parse b) ≡ None) × (wrongOrder (parse b .faces) (orderIn b) ≡ None) × (wrongMate (parse b .faces) (matesIn b) ≡ None)
   unfolding listsCause
   none-order e =
       let q = both (noSuchVertex (parse b)) _ e in
-      (q .0, both (wrongOrder (parse b .faces) (orderIn b)) _ (q .1) .0)
+      let r = both (wrongOrder (parse b .faces) (orderIn b)) _ (q .1) in
+      (q .0, r .0, r .1)
 
 module _ (b : List ℕ) (v : List Float) (f o : List ℕ) (l : Loaded b v f o) (e : listsCause b ≡ None) where
   pub now-ready : Ready b v f
@@ -86,6 +96,28 @@ module _ (b : List ℕ) (v : List Float) (f o : List ℕ) (l : Loaded b v f o) (
   in-order =
       let n : length o ≡ length f = ap length (l .order) ∙ unpack-length 4 (3 * facesIn b) b _ ∙ sym (ap length (l .faces) ∙ faces-length b) in
       is-order f o n (rw (l .faces, l .order) (none-order b (l .opened) e .1)) (now-ready .body .faces)
+
+  -- the mates are the uses of the same edges, the other way round
+  module _ (m : List ℕ) (r : MatesRead b m) where
+    mate-at : (u : ℕ) → u < length m → getD m u 0 ≡ getD (matesIn b) u 0
+    mate-at u k =
+        ap (λ (x : List ℕ). getD x u 0) (r .mates) ∙ unpack-at 4 (length m) b (matesStart b) u k ∙ sym (unpack-at 4 (3 * facesIn b) b (matesStart b) u (omega (arith, r .few)))
+
+    mate-reversed : (u : ℕ) → u < length m → edgeNumber (from f (getD m u 0)) (to f (getD m u 0)) ≡ edgeNumber (to f u) (from f u)
+    unfolding wrongMate edge reverse
+    mate-reversed u k =
+        let none : wrongMate f (matesIn b) ≡ None = rw (l .faces) (none-order b (l .opened) e .2) in
+        let n : length f ≡ 3 * facesIn b = ap length (l .faces) ∙ faces-length b in
+        let t = numbers.both (ltb (getD (matesIn b) u 0) (length f)) _ (none-each (length f) (isReverse f (matesIn b)) (λ i. WrongMate) none u (omega (arith, r .few))) .1 in
+        rw (mate-at u k) (eqb-true _ _ t)
+
+    pub mated : (logs : List Float) → length logs ≡ length m → Mated f m logs
+    mated logs q =
+        let h = now-ready .body .faces in
+        record {
+          room = q;
+          reverse = λ u k. number-apart _ _ _ _ (omega (arith, small-to f h (getD m u 0))) (omega (arith, small-from f h u)) (mate-reversed u k);
+        }
 
 -- ---- 4, 17 and 18 of the lists as they are read: f is the face list, o the order list
 

@@ -2,33 +2,50 @@
 mod rooms;
 
 ghost use mathlib.Core.Path.{_≡_};
+ghost use mathlib.Core.Bool.{cond};
 ghost use Prim.Native.Nat.{ℕ, _*_, _≤_};
+ghost use lib.Dec.{ltb};
 ghost use lib.ListN.{length};
 ghost use Rattle.refusals.specs.Causes.{orElse};
 ghost use Rattle.refusals.specs.declared.Cause.the-variants.{None};
 ghost use Rattle.sheet.specs.Checker.{verticesIn, facesIn, checkerCause, verdict};
 ghost use Rattle.sheet.specs.Promises.{Right};
 ghost use Rattle.readers.specs.Opened.{Opened};
-ghost use Rattle.body_checks.specs.Stages.{listsCause, volumeCause, stationsCause, bodyCause, Loaded};
+ghost use Rattle.body_checks.specs.Stages.{listsCause, volumeCause, stationsCause, bodyCause, Loaded, MatesRead};
 use layout::read_f64s;
 use refusals::Cause;
 use sheet::Verdict;
 
-// The causes after 4, 17 and 18, of lists that were read.
-fn loaded_cause(sheet: &[u8], verts: &[f64], faces: &[u32], order: &[u32]) -> Cause
-    requires { ⌜ Loaded (now sheet) (now verts) (now faces) (now order) × (listsCause (now sheet) ≡ None) ⌝ }
+// The causes after 4, 17 and 18, of lists that were read. logs is room.
+fn loaded_cause(
+    sheet: &[u8],
+    verts: &[f64],
+    faces: &[u32],
+    order: &[u32],
+    mates: &[u32],
+    logs: &mut [f64],
+) -> Cause
+    requires { ⌜ Loaded (now sheet) (now verts) (now faces) (now order) × (listsCause (now sheet) ≡ None) × MatesRead (now sheet) (now mates) × (length (now logs) ≡ length (now mates)) ⌝ }
     ensures { λ r. ⌜ r ≡ orElse (volumeCause (now (sheet .entry))) (stationsCause (now (sheet .entry))) ⌝ }
 {
     let volume = body_checks::volume_cause(sheet, verts, faces);
     if let Cause::Refused(r) = volume {
         return Cause::Refused(r);
     }
-    station_checks::stations_cause(sheet, verts, faces, order)
+    station_checks::stations_cause(sheet, verts, faces, order, mates, logs)
 }
 
 // The causes after 16, 1 and 2, with room for the lists.
-fn body_cause(sheet: &[u8], verts: &mut [f64], faces: &mut [u32], order: &mut [u32]) -> Cause
-    requires { ⌜ Opened (now sheet) × (length (now verts) ≡ 3 * verticesIn (now sheet)) × (length (now faces) ≡ 3 * facesIn (now sheet)) × (length (now order) ≡ 3 * facesIn (now sheet)) ⌝ }
+fn body_cause(
+    sheet: &[u8],
+    verts: &mut [f64],
+    faces: &mut [u32],
+    order: &mut [u32],
+    mates: &mut [u32],
+    logs: &mut [f64],
+) -> Cause
+    requires { ⌜ Opened (now sheet) × (length (now verts) ≡ 3 * verticesIn (now sheet)) × (length (now faces) ≡ 3 * facesIn (now sheet)) × (length (now order) ≡ 3 * facesIn (now sheet))
+        × (length (now mates) ≤ 3 * facesIn (now sheet)) × (length (now logs) ≡ length (now mates)) ⌝ }
     ensures { λ r. ⌜ r ≡ bodyCause (now (sheet .entry)) ⌝ }
 {
     read_f64s(sheet, 0, verts);
@@ -40,22 +57,43 @@ fn body_cause(sheet: &[u8], verts: &mut [f64], faces: &mut [u32], order: &mut [u
     if let Cause::Refused(r) = lists {
         return Cause::Refused(r);
     }
-    loaded_cause(sheet, verts, faces, order)
+    body_checks::read_mates(sheet, mates);
+    loaded_cause(sheet, verts, faces, order, mates, logs)
 }
 
-// The same, with room to spare.
+fn fewer(a: usize, b: usize) -> usize
+    ensures { λ r. ⌜ r ≡ cond (ltb a b) a b ⌝ }
+{
+    if a < b {
+        return a;
+    }
+    b
+}
+
+// The same, with room to spare; of the mates and the logarithms only as many as there is room for.
 pub(crate) fn in_room(
     sheet: &[u8],
     verts: &mut [f64],
     faces: &mut [u32],
     order: &mut [u32],
+    mates: &mut [u32],
+    logs: &mut [f64],
 ) -> Cause
-    requires { ⌜ Opened (now sheet) × (3 * verticesIn (now sheet) ≤ length (now verts)) × (3 * facesIn (now sheet) ≤ length (now faces)) × (3 * facesIn (now sheet) ≤ length (now order)) ⌝ }
+    requires { ⌜ Opened (now sheet) × (3 * verticesIn (now sheet) ≤ length (now verts)) × (3 * facesIn (now sheet) ≤ length (now faces)) × (3 * facesIn (now sheet) ≤ length (now order))
+        × (length (now logs) ≡ length (now mates)) ⌝ }
     ensures { λ r. ⌜ r ≡ bodyCause (now (sheet .entry)) ⌝ }
 {
     let v = 3 * (readers::vertices(sheet) as usize);
     let f = 3 * (readers::faces(sheet) as usize);
-    body_cause(sheet, &mut verts[..v], &mut faces[..f], &mut order[..f])
+    let m = fewer(f, mates.len());
+    body_cause(
+        sheet,
+        &mut verts[..v],
+        &mut faces[..f],
+        &mut order[..f],
+        &mut mates[..m],
+        &mut logs[..m],
+    )
 }
 
 // All causes in order.

@@ -8,3 +8,4 @@ pub mod Fields
 pub mod Exactly
 pub mod SignBit
 pub mod Magnitude
+pub mod EitherWay

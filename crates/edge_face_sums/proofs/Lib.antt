@@ -1,2 +1,3 @@
 -- Laws of the sums that are carried.
 pub mod Carrying
+pub mod Logs

@@ -9,6 +9,7 @@ ghost use lib.ListN.{length};
 ghost use Rattle.newtonian.specs.Field.{answerOf};
 ghost use Rattle.orders.specs.Order.{orderList};
 ghost use Rattle.mesh.specs.Surface.{Body};
+ghost use Rattle.edge_face_sums.specs.Logarithms.{Mated};
 ghost use Rattle.mesh.specs.Check.{workAfter};
 ghost use Rattle.polyhedron.specs.Polyhedron.{isFar, polyhedronFrom, polyhedronAt, givenCause, polyhedronCause, polyhedron};
 
@@ -23,15 +24,25 @@ fn is_far(p: Vector, c: Vector, r: f64) -> bool
 }
 
 // The field of a checked mesh at the station p of number i, with its centroid c and radius r. What it is given is not
-// tested.
-pub fn polyhedron_at(i: u32, p: Vector, c: Vector, r: f64, verts: &[f64], faces: &[u32]) -> Field
-    requires { ⌜ Body (now verts) (now faces) ⌝ }
+// tested. Mates, and as much room for logarithms, make it faster near the body; both may be empty.
+pub fn polyhedron_at(
+    i: u32,
+    p: Vector,
+    c: Vector,
+    r: f64,
+    verts: &[f64],
+    faces: &[u32],
+    mates: &[u32],
+    logs: &mut [f64],
+) -> Field
+    requires { ⌜ Body (now verts) (now faces) × Mated (now faces) (now mates) (now logs) ⌝ }
     ensures { λ a. ⌜ answerOf a ≡ polyhedronFrom i p c r (now (verts .entry)) (now (faces .entry)) ⌝ }
+    ensures { λ _. ⌜ length (now (logs .exit)) ≡ length (now (logs .entry)) ⌝ }
 {
     if is_far(p, c, r) {
         return Field::At(tetrahedra::tetrahedra(p, c, verts, faces));
     }
-    edge_face_sums::edge_face_sums(i, p, verts, faces)
+    edge_face_sums::edge_face_sums(i, p, verts, faces, mates, logs)
 }
 
 // The causes 1, 2, 12 and 3.
@@ -59,7 +70,8 @@ fn single_point(p: Vector, verts: &[f64], faces: &[u32], order: &[u32]) -> Field
 {
     let c = centroid::centroid(verts, faces, order);
     let r = centroid::radius(c, verts, faces, order);
-    polyhedron_at(0, p, c, r, verts, faces)
+    let mut none = [0.0; 1];
+    polyhedron_at(0, p, c, r, verts, faces, &faces[..0], &mut none[..0])
 }
 
 // The field of a closed polyhedron at a station, at unit Gρ; or refused by 1, 2, 12, 3, 4, 5, 6, 7, 8 or 11. verts has

@@ -28,7 +28,19 @@ fn put_row(
     ensures { λ r. ⌜ RowPut (inputOf kind (now (verts .entry)) (now (faces .entry)) magnetisation ambient (now (stations .entry))) i at r (now (out .entry)) (now (out .exit)) ⌝ }
 {
     let p = mesh::surface::vertex(stations, i);
-    match rows::row_at(kind, magnetisation, ambient, i, p, c, verts, faces) {
+    let mut none = [0.0; 1];
+    match rows::row_at(
+        kind,
+        magnetisation,
+        ambient,
+        i,
+        p,
+        c,
+        verts,
+        faces,
+        &faces[..0],
+        &mut none[..0],
+    ) {
         RowAnswer::Refused(r) => Cause::Refused(r),
         RowAnswer::At(row) => {
             if rows::is_finite_row(kind, row) {

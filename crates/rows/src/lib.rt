@@ -3,9 +3,11 @@ pub mod kinds;
 
 ghost use mathlib.Core.Path.{_≡_};
 ghost use mathlib.Core.Bool.{true};
+ghost use lib.ListN.{length};
 ghost use Rattle.newtonian.specs.Field as newtonian;
 ghost use Rattle.orders.specs.Order.{orderList};
 ghost use Rattle.mesh.specs.Surface.{Body};
+ghost use Rattle.edge_face_sums.specs.Logarithms.{Mated};
 ghost use Rattle.rows.specs.Kinds.{isMesh};
 ghost use Rattle.rows.specs.Row.{fieldAt, rowFrom, rowAt, rowNumbers, allFinite, isFiniteRow, rowCause, answerOf};
 ghost use Rattle.rows.specs.Known.{CenterOf, Known};
@@ -59,12 +61,22 @@ pub fn center_of(kind: u32, verts: &[f64], faces: &[u32], order: &[u32]) -> Cent
 }
 
 // The field at the station p of number i.
-fn field_at(kind: u32, i: u32, p: Vector, c: Center, verts: &[f64], faces: &[u32]) -> Field
-    requires { ⌜ Known kind c (now verts) (now faces) ⌝ }
+fn field_at(
+    kind: u32,
+    i: u32,
+    p: Vector,
+    c: Center,
+    verts: &[f64],
+    faces: &[u32],
+    mates: &[u32],
+    logs: &mut [f64],
+) -> Field
+    requires { ⌜ Known kind c (now verts) (now faces) × Mated (now faces) (now mates) (now logs) ⌝ }
     ensures { λ r. ⌜ newtonian.answerOf r ≡ fieldAt kind i p (now (verts .entry)) (now (faces .entry)) ⌝ }
+    ensures { λ _. ⌜ length (now (logs .exit)) ≡ length (now (logs .entry)) ⌝ }
 {
     if kinds::is_mesh(kind) {
-        return polyhedron::polyhedron_at(i, p, c.centroid, c.radius, verts, faces);
+        return polyhedron::polyhedron_at(i, p, c.centroid, c.radius, verts, faces, mates, logs);
     }
     let lo = mesh::surface::vertex(verts, 0);
     let hi = mesh::surface::vertex(verts, 1);
@@ -83,7 +95,8 @@ fn row_from(kind: u32, magnetisation: Vector, ambient: Vector, field: Newtonian)
     }
 }
 
-// The row at the station p of number i.
+// The row at the station p of number i. A mesh's mates, and as much room for logarithms, make it faster; both may be
+// empty.
 pub fn row_at(
     kind: u32,
     magnetisation: Vector,
@@ -93,11 +106,14 @@ pub fn row_at(
     c: Center,
     verts: &[f64],
     faces: &[u32],
+    mates: &[u32],
+    logs: &mut [f64],
 ) -> RowAnswer
-    requires { ⌜ Known kind c (now verts) (now faces) ⌝ }
+    requires { ⌜ Known kind c (now verts) (now faces) × Mated (now faces) (now mates) (now logs) ⌝ }
     ensures { λ r. ⌜ answerOf r ≡ rowAt kind magnetisation ambient i p (now (verts .entry)) (now (faces .entry)) ⌝ }
+    ensures { λ _. ⌜ length (now (logs .exit)) ≡ length (now (logs .entry)) ⌝ }
 {
-    match field_at(kind, i, p, c, verts, faces) {
+    match field_at(kind, i, p, c, verts, faces, mates, logs) {
         Field::At(g) => RowAnswer::At(row_from(kind, magnetisation, ambient, g)),
         Field::Refused(r) => RowAnswer::Refused(r),
     }

@@ -1,7 +1,9 @@
 // By station: the causes 10 or 11, 13, 20.
 ghost use mathlib.Core.Path.{_≡_};
 ghost use Prim.Native.Nat.{_<_};
+ghost use lib.ListN.{length};
 ghost use Rattle.orders.specs.Order.{orderList};
+ghost use Rattle.edge_face_sums.specs.Logarithms.{Mated};
 ghost use Rattle.rows.specs.Known.{CenterOf};
 ghost use Rattle.sheet.specs.Checker.{kindIn, stationsIn, parse, checkStation};
 ghost use Rattle.body_checks.specs.Stages.{stationsCause, Ready};
@@ -12,7 +14,7 @@ use rows::Center;
 use rows::RowAnswer;
 use sheet_scans::vector_at;
 
-// Station i, with the magnetisation m and the ambient field a, and the center of a mesh.
+// Station i, with the magnetisation m and the ambient field a, and the center and the mates of a mesh. logs is room.
 fn station_cause(
     sheet: &[u8],
     i: u32,
@@ -21,14 +23,17 @@ fn station_cause(
     c: Center,
     verts: &[f64],
     faces: &[u32],
+    mates: &[u32],
+    logs: &mut [f64],
 ) -> Cause
     requires { ⌜ Ready (now sheet) (now verts) (now faces) × CenterOf (kindIn (now sheet)) c (now verts) (now faces) × (i < stationsIn (now sheet))
-        × (m ≡ parse (now sheet) .magnetisation) × (a ≡ parse (now sheet) .ambient) ⌝ }
+        × (m ≡ parse (now sheet) .magnetisation) × (a ≡ parse (now sheet) .ambient) × Mated (now faces) (now mates) (now logs) ⌝ }
     ensures { λ r. ⌜ r ≡ checkStation (now (sheet .entry)) (parse (now (sheet .entry))) i ⌝ }
+    ensures { λ _. ⌜ length (now (logs .exit)) ≡ length (now (logs .entry)) ⌝ }
 {
     let kind = readers::kind(sheet);
     let p = vector_at(sheet, readers::stations_start(sheet) + 24 * (i as usize));
-    let answer = rows::row_at(kind, m, a, i, p, c, verts, faces);
+    let answer = rows::row_at(kind, m, a, i, p, c, verts, faces, mates, logs);
     let cause = rows::row_cause(kind, i, answer);
     if let Cause::Refused(r) = cause {
         return Cause::Refused(r);
@@ -42,8 +47,15 @@ fn station_cause(
 }
 
 // The stations in order.
-pub fn stations_cause(sheet: &[u8], verts: &[f64], faces: &[u32], order: &[u32]) -> Cause
-    requires { ⌜ Ready (now sheet) (now verts) (now faces) × (now order ≡ orderList (now faces)) ⌝ }
+pub fn stations_cause(
+    sheet: &[u8],
+    verts: &[f64],
+    faces: &[u32],
+    order: &[u32],
+    mates: &[u32],
+    logs: &mut [f64],
+) -> Cause
+    requires { ⌜ Ready (now sheet) (now verts) (now faces) × (now order ≡ orderList (now faces)) × Mated (now faces) (now mates) (now logs) ⌝ }
     ensures { λ r. ⌜ r ≡ stationsCause (now (sheet .entry)) ⌝ }
 {
     let c = rows::center_of(readers::kind(sheet), verts, faces, order);
@@ -53,7 +65,7 @@ pub fn stations_cause(sheet: &[u8], verts: &[f64], faces: &[u32], order: &[u32])
     let n = readers::stations(sheet);
     let mut i = 0;
     while i < n {
-        let cause = station_cause(sheet, i, m, a, c, verts, faces);
+        let cause = station_cause(sheet, i, m, a, c, verts, faces, mates, logs);
         if let Cause::Refused(r) = cause {
             return Cause::Refused(r);
         }

@@ -5,14 +5,14 @@ use borrow.Author.Needs.{needs}
 use Rattle.refusals.specs.declared.Cause.the-variants.{None}
 use Rattle.sheet.specs.Writer.{outOfLimits}
 use Rattle.sheet.specs.Checker.{parse}
-use Rattle.body_checks.specs.Stages.{bodyCause}
+use Rattle.body_checks.specs.Stages.{bodyCause, listsCause}
 use Rattle.body_checks.proofs.Known.{vertices-loaded}
 use Rattle.checker.proofs.body_cause.Statement.{statement}
 use Rattle.checker.proofs.body_cause.Tie as tie
 
 -- where the call begins
 abbrev start : tie.After-read-f64s → tie.Start
-start c = c .before .before .before .before .before .before
+start c = c .before .before .before .before .before .before .before .before
 
 -- where the vertices were read, and where the lists were
 abbrev read : tie.After-out-of-limits → tie.After-read-f64s
@@ -36,19 +36,33 @@ returns-2 : tie.Need-returns-2
 unfolding bodyCause
 returns-2 c = let l = c .before .before .before .before .before .before .before in rw (within l, sym (l .lists-cause .ensures .0) ∙ c .before .lists .given .1)
 
+-- where the mates were read, and before it no cause was found
+abbrev told : tie.After-read-mates → tie.After-enum-told2
+told c = c .before .before
+
+abbrev listed : tie.After-read-mates → tie.After-lists-cause
+listed c = told c .before .before .before .before .before .before
+
+none : (c : tie.After-read-mates) → listsCause (now (start (read (tried (listed c))) .args .sheet)) ≡ None
+none c = sym (listed c .lists-cause .ensures .0) ∙ told c .enum-told2 .given .1
+
 loaded-cause-requires : tie.Need-loaded-cause-requires
 loaded-cause-requires c κs =
-    let told = c .before .before .before in
-    let l = told .before .before .before .before .before .before in
-    let r = read (tried l) in
-    (record { opened = start r .pre .0; vertices = verts-read r; faces = l .lists-cause .ensures .1 .0; order = l .lists-cause .ensures .1 .1 }, sym (l .lists-cause .ensures .0) ∙ told .enum-told2 .given .1)
+    let m = c .before .before .before .before .before .before .before in
+    let l = listed m in
+    let r = read (tried l) in (
+      record { opened = start r .pre .0; vertices = verts-read r; faces = l .lists-cause .ensures .1 .0; order = l .lists-cause .ensures .1 .1 },
+      none m,
+      m .read-mates .ensures .1,
+      start r .pre .5 ∙ sym (m .read-mates .ensures .0),
+    )
 
 returns-3 : tie.Need-returns-3
 unfolding bodyCause
 returns-3 c =
-    let told = c .before .before .before .before in
-    let l = told .before .before .before .before .before .before in
-    rw (within l, sym (l .lists-cause .ensures .0) ∙ told .enum-told2 .given .1) (c .loaded-cause .ensures)
+    let loaded = c .before .before in
+    let m = loaded .before .before .before .before .before .before .before .before in
+    rw (within (listed m), none m) (loaded .loaded-cause .ensures)
 
 pub body-cause-spec : {M : Type 1} → statement M
 body-cause-spec =
@@ -67,7 +81,10 @@ body-cause-spec =
     (λ c. search needs)
     returns-2
     (λ c. search needs)
+    (λ c κs. search needs)
     loaded-cause-requires
+    (λ c. search needs)
+    (λ c. search needs)
     (λ c. search needs)
     (λ c. search needs)
     (λ c. search needs)

@@ -25,18 +25,18 @@ input c = let a = c .args in inputOf (a .kind) (now (a .verts)) (now (a .faces))
 
 -- where the call begins
 abbrev start : tie.After-row-at → tie.Start
-start c = c .before .before .before .before .before .before
+start c = c .before .before .before .before .before .before .before .before
 
 -- what `row_at` answered is the row of station i
 answered : (c : tie.After-row-at) → answerOf (c .row-at .result) ≡ rowAt (input (start c)) (start c .args .i)
 unfolding rowAt input
 answered c =
     let a = start c .args in
-    c .row-at .ensures ∙ ap (λ (p : Vector). row.rowAt (a .kind) (a .magnetisation) (a .ambient) (a .i) p (now (a .verts)) (now (a .faces))) (c .before .vertex .ensures)
+    c .row-at .ensures .0 ∙ ap (λ (p : Vector). row.rowAt (a .kind) (a .magnetisation) (a .ambient) (a .i) p (now (a .verts)) (now (a .faces))) (c .before .before .before .vertex .ensures)
 
 -- a row
-given : (c : tie.After-row) → value (c .row .given .0 .0) ≡ rowAt (input (start (c .before .before))) (start (c .before .before) .args .i)
-given c = sym (ap answerOf (c .row .given .1)) ∙ answered (c .before .before)
+given : (c : tie.After-row) → value (c .row .given .0 .0) ≡ rowAt (input (start (c .before .before .before))) (start (c .before .before .before) .args .i)
+given c = sym (ap answerOf (c .row .given .1)) ∙ answered (c .before .before .before)
 
 returns : tie.Need-returns
 unfolding input
@@ -44,7 +44,7 @@ returns c =
     let numbers = c .before .before .before .before .before in
     let finite = numbers .before .before in
     let row = finite .before .before in
-    let st = start (row .before .before) in
+    let st = start (row .before .before .before) in
     let a = st .args in
     record {
       cause = of-row (input st) (a .i) (row .row .given .0 .0) true (given row) (sym (finite .is-finite-row .ensures) ∙ numbers .before .if1 .taken);
@@ -55,7 +55,7 @@ returns-2 : tie.Need-returns-2
 unfolding input
 returns-2 c =
     let r = c .before .r .given .0 .0 in
-    let at = c .before .before .before in
+    let at = c .before .before .before .before in
     let st = start at in
     record { cause = of-refused (input st) (st .args .i) r (sym (ap answerOf (c .before .r .given .1)) ∙ answered at); row = λ z. absurd (not-none r z) }
 
@@ -63,7 +63,7 @@ returns-3 : tie.Need-returns-3
 unfolding input
 returns-3 c =
     let row = c .before .before .before in
-    let st = start (row .before .before) in
+    let st = start (row .before .before .before) in
     record {
       cause = of-row (input st) (st .args .i) (row .row .given .0 .0) false (given row) (sym (c .before .is-finite-row .ensures) ∙ c .if1 .left);
       row = λ z. absurd (not-none (NotFinite (st .args .i)) z);
@@ -74,13 +74,16 @@ put-row-spec =
     tie.close
     (tie.spec
     (λ c κs. omega arith)
-    (λ c κs. c .before .before .before .before .before .pre .0)
     (λ c. search needs)
     (λ c. search needs)
-    (λ c κs. tt)
-    (λ c κs. tt)
     (λ c. search needs)
     (λ c κs. search needs)
+    (λ c. search needs)
+    (λ c. search needs)
+    (λ c κs. tt)
+    (λ c κs. tt)
+    (λ c. search needs)
+    (λ c κs. omega (arith, start (c .before .before .before .before .before .before .before .before .before) .pre .2))
     (λ c. omega arith)
     returns
     returns-2

@@ -1,5 +1,5 @@
 -- `rows::field_at` meets its contract. Assumes nothing.
-use mathlib.Core.Path.{_≡_, sym, _∙_}
+use mathlib.Core.Path.{_≡_, refl, sym, _∙_}
 use mathlib.Core.Bool.{true, false}
 use native.Mathlib.Omega.{arith}
 use borrow.Author.Needs.{needs}
@@ -9,27 +9,37 @@ use Rattle.rows.specs.Row.{fieldAt}
 use Rattle.rows.proofs.field_at.Statement.{statement}
 use Rattle.rows.proofs.field_at.Tie as tie
 
+-- where the call begins
+abbrev start : tie.After-is-mesh → tie.Start
+start c = c .before .before .before .before .before
+
+mesh : (c : tie.Then1) → isMesh (start (c .before) .args .kind) ≡ true
+mesh c = sym (c .before .is-mesh .ensures) ∙ c .if1 .taken
+
+prism : (c : tie.Else1) → isMesh (start (c .before) .args .kind) ≡ false
+prism c = sym (c .before .is-mesh .ensures) ∙ c .if1 .left
+
 returns : tie.Need-returns
 unfolding fieldAt polyhedronAt
 returns c =
-    let m : isMesh (c .before .before .before .before .before .args .kind) ≡ true = sym (c .before .before .is-mesh .ensures) ∙ c .before .if1 .taken in
-    let k = c .before .before .before .before .before .pre .center m in
-    c .polyhedron-at .ensures ∙ simp (m, k .0, k .1)
+    let at = c .before .before in
+    let then = at .before .before in
+    let k = start (then .before) .pre .0 .center (mesh then) in
+    (at .polyhedron-at .ensures .0 ∙ simp (mesh then, k .0, k .1), at .polyhedron-at .ensures .1)
 
 returns-2 : tie.Need-returns-2
 unfolding fieldAt
-returns-2 c =
-    let m : isMesh (c .before .before .before .before .before .before .before .args .kind) ≡ false = sym (c .before .before .before .before .is-mesh .ensures) ∙ c .before .before .before .if1 .left in
-    c .prism-at .ensures ∙ simp (m, c .before .vertex2 .ensures, c .before .before .vertex .ensures)
+returns-2 c = (c .prism-at .ensures ∙ simp (prism (c .before .before .before), c .before .vertex2 .ensures, c .before .before .vertex .ensures), refl)
 
 pub field-at-spec : {M : Type 1} → statement M
 field-at-spec =
     tie.close
     (tie.spec
     (λ c κs. search needs)
-    (λ c κs. c .before .before .before .before .pre .body (sym (c .before .is-mesh .ensures) ∙ c .if1 .taken))
+    (λ c κs. let st = start (c .before .before) in (st .pre .0 .body (mesh (c .before)), st .pre .1))
+    (λ c. search needs)
     returns
-    (λ c κs. omega (arith, c .before .before .before .before .pre .corners (sym (c .before .is-mesh .ensures) ∙ c .if1 .left)))
-    (λ c κs. omega (arith, c .before .before .before .before .before .pre .corners (sym (c .before .before .is-mesh .ensures) ∙ c .before .if1 .left)))
+    (λ c κs. omega (arith, start (c .before) .pre .0 .corners (prism c)))
+    (λ c κs. omega (arith, start (c .before .before) .pre .0 .corners (prism (c .before))))
     (λ c κs. search needs)
     returns-2)

@@ -1,0 +1,2 @@
+-- Laws of the terms, for the crates above.
+pub mod EitherWay
