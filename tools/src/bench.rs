@@ -215,14 +215,22 @@ fn best_of(turns: usize, parts: [&dyn Fn(); 4]) -> [f64; 4] {
     best
 }
 
-/// What checking a mesh sheet takes, against the fields of its stations near the body: those of a station are `polyhedron` less `check_mesh`, then `body` and `total_field`.
+/// The least closed body.
+fn tetrahedron() -> Mesh {
+    let verts = vec![0.0, 0.0, 0.0, 1.0, 0.0, 0.0, 0.0, 1.0, 0.0, 0.0, 0.0, 1.0];
+    Mesh { verts, room: 12, faces: vec![0, 2, 1, 0, 1, 3, 0, 3, 2, 1, 2, 3] }
+}
+
+/// What checking a mesh sheet takes, against the fields of its stations: those of a station are `polyhedron` less `check_mesh`, then `body` and `total_field`.
 fn checking(turns: usize) {
     println!("\n| sheet | check_sheet | its fields | ratio |\n|---|---|---|---|");
-    for (n, count) in [(2, 1), (2, 8), (3, 1), (3, 2), (5, 1), (9, 1), (9, 2), (17, 1), (17, 2), (33, 1), (65, 1), (65, 2)] {
-        let m = sphere(n);
+    let near = [(1, 1), (2, 1), (2, 8), (3, 1), (3, 2), (5, 1), (9, 1), (9, 2), (17, 1), (17, 2), (33, 1), (65, 1), (65, 2), (91, 1)];
+    let far = [(1, 1), (3, 1), (17, 1)];
+    for (n, count, kind, scale) in near.map(|(n, c)| (n, c, "near", 1.0)).into_iter().chain(far.map(|(n, c)| (n, c, "far", 9.0))) {
+        let m = if n == 1 { tetrahedron() } else { sphere(n) };
         let v = points(&m.verts);
         let body = physica::Body::Mesh { verts: &v, faces: m.faces.as_chunks::<3>().0 };
-        let (p, magnetisation, ambient): (V3, V3, V3) = ([1.1, 0.9, 1.2], [1.0, 2.0, -2.0], [2e-5, 0.0, 4.5e-5]);
+        let (p, magnetisation, ambient): (V3, V3, V3) = ([1.1 * scale, 0.9 * scale, 1.2 * scale], [1.0, 2.0, -2.0], [2e-5, 0.0, 4.5e-5]);
         let sheet = physica::write_sheet(body, magnetisation, ambient, &vec![p; count]).unwrap();
         let hessian = [-1.0, 0.1, 0.2, 0.1, -1.5, 0.3, 0.2, 0.3, 2.5];
         let work = std::cell::RefCell::new(vec![0; m.room]);
@@ -241,7 +249,7 @@ fn checking(turns: usize) {
             },
         ]);
         let fields = count as f64 * (times[1] - times[2] + times[3]);
-        println!("| {} faces, {count} near | {} | {} | {:.3} |", m.faces.len() / 3, nanoseconds(times[0] * 1e9), nanoseconds(fields * 1e9), times[0] / fields);
+        println!("| {} faces, {count} {kind} | {} | {} | {:.3} |", m.faces.len() / 3, nanoseconds(times[0] * 1e9), nanoseconds(fields * 1e9), times[0] / fields);
     }
 }
 
