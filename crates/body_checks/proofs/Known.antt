@@ -6,7 +6,8 @@ use Prim.Native.Nat.{ℕ, _*_, _/_, _≤_, _<_}
 use native.Mathlib.Omega.{arith}
 use lib.Dec.{eqb, ltb}
 use lib.Ieee.{Float}
-use lib.ListN.{length, getD}
+use lib.ListN.{length, getD, take}
+use lib.Seq.{getD-take, length-take-le}
 use borrow.Author.Tests.{eqb-true}
 use Rattle.refusals.specs.declared.Refusal.the-variants.{WrongMate}
 use Rattle.refusals.specs.declared.Cause.the-variants.{None}
@@ -28,8 +29,8 @@ use Rattle.readers.specs.Opened.{Opened}
 use Rattle.sheet.specs.Reading.{faces-length}
 use Rattle.readers.proofs.Parsed.{vertices-length}
 use Rattle.layout.specs.LittleEndian.{unpack, doubles}
-use Rattle.layout.proofs.Lists.{unpack-at, unpack-length}
-use Rattle.body_checks.specs.Stages.{listsCause, Loaded, MatesRead, Ready}
+use Rattle.layout.proofs.Lists.{unpack-length}
+use Rattle.body_checks.specs.Stages.{listsCause, Loaded, Ready}
 
 second : (a b : Bool) → (a || b) ≡ true → a ≡ false → b ≡ true
 second true b e z = cc
@@ -52,10 +53,8 @@ module _ (b : List ℕ) {n : ℕ} where
   unfolding parse
   faces-loaded e p = rw (e, p)
 
-  pub mates-loaded : {at : ℕ} (m : List ℕ) → m ≡ unpack 4 n b at → n ≤ 3 * facesIn b → at ≡ matesStart b → (length m ≡ n) × MatesRead b m
-  mates-loaded {at} m q h p =
-      let k : length m ≡ n = ap length q ∙ unpack-length 4 n b at in
-      (k, record { few = omega arith; mates = rw k (q ∙ ap (unpack 4 n b) p) })
+  pub mates-loaded : {at : ℕ} → n ≡ 3 * facesIn b → at ≡ matesStart b → unpack 4 n b at ≡ matesIn b
+  mates-loaded e p = rw (e, p)
 
   pub order-loaded : {at : ℕ} → n ≡ 3 * facesIn b → at ≡ orderStart b → unpack 4 n b at ≡ orderIn b
   order-loaded e p = rw (e, p)
@@ -92,32 +91,33 @@ module _ (b : List ℕ) (v : List Float) (f o : List ℕ) (l : Loaded b v f o) (
   pub now-ready : Ready b v f
   now-ready = rw (l .vertices, l .faces) (ready b (l .opened) (none-order b (l .opened) e .0))
 
+  pub order-length : length o ≡ 3 * facesIn b
+  order-length = ap length (l .order) ∙ unpack-length 4 (3 * facesIn b) b _
+
   pub in-order : o ≡ orderList f
   in-order =
-      let n : length o ≡ length f = ap length (l .order) ∙ unpack-length 4 (3 * facesIn b) b _ ∙ sym (ap length (l .faces) ∙ faces-length b) in
+      let n : length o ≡ length f = order-length ∙ sym (ap length (l .faces) ∙ faces-length b) in
       is-order f o n (rw (l .faces, l .order) (none-order b (l .opened) e .1)) (now-ready .body .faces)
 
   -- the mates are the uses of the same edges, the other way round
-  module _ (m : List ℕ) (r : MatesRead b m) where
-    mate-at : (u : ℕ) → u < length m → getD m u 0 ≡ getD (matesIn b) u 0
-    mate-at u k =
-        ap (λ (x : List ℕ). getD x u 0) (r .mates) ∙ unpack-at 4 (length m) b (matesStart b) u k ∙ sym (unpack-at 4 (3 * facesIn b) b (matesStart b) u (omega (arith, r .few)))
+  mate-reversed : (u : ℕ) → u < 3 * facesIn b → edgeNumber (from f (getD (matesIn b) u 0)) (to f (getD (matesIn b) u 0)) ≡ edgeNumber (to f u) (from f u)
+  unfolding wrongMate edge reverse
+  mate-reversed u k =
+      let none : wrongMate f (matesIn b) ≡ None = rw (l .faces) (none-order b (l .opened) e .2) in
+      let n : length f ≡ 3 * facesIn b = ap length (l .faces) ∙ faces-length b in
+      eqb-true _ _ (numbers.both (ltb (getD (matesIn b) u 0) (length f)) _ (none-each (length f) (isReverse f (matesIn b)) (λ i. WrongMate) none u (omega arith)) .1)
 
-    mate-reversed : (u : ℕ) → u < length m → edgeNumber (from f (getD m u 0)) (to f (getD m u 0)) ≡ edgeNumber (to f u) (from f u)
-    unfolding wrongMate edge reverse
-    mate-reversed u k =
-        let none : wrongMate f (matesIn b) ≡ None = rw (l .faces) (none-order b (l .opened) e .2) in
-        let n : length f ≡ 3 * facesIn b = ap length (l .faces) ∙ faces-length b in
-        let t = numbers.both (ltb (getD (matesIn b) u 0) (length f)) _ (none-each (length f) (isReverse f (matesIn b)) (λ i. WrongMate) none u (omega (arith, r .few))) .1 in
-        rw (mate-at u k) (eqb-true _ _ t)
-
-    pub mated : (logs : List Float) → length logs ≡ length m → Mated f m logs
-    mated logs q =
-        let h = now-ready .body .faces in
-        record {
-          room = q;
-          reverse = λ u k. number-apart _ _ _ _ (omega (arith, small-to f h (getD m u 0))) (omega (arith, small-from f h u)) (mate-reversed u k);
-        }
+  -- those of the first n uses
+  pub mated : (m : List ℕ) → m ≡ matesIn b → (n : ℕ) → n ≤ 3 * facesIn b → (logs : List Float) → length logs ≡ n → Mated f (take n m) logs
+  mated m p n k logs q =
+      let h = now-ready .body .faces in
+      let c = length-take-le n (matesIn b) (omega (arith, unpack-length 4 (3 * facesIn b) b (matesStart b))) in
+      rw p (record {
+        room = q ∙ sym c;
+        reverse = λ u j.
+            rw (getD-take n (matesIn b) u 0 (omega arith))
+            (number-apart _ _ _ _ (omega (arith, small-to f h (getD (matesIn b) u 0))) (omega (arith, small-from f h u)) (mate-reversed u (omega arith)));
+      })
 
 -- ---- 4, 17 and 18 of the lists as they are read: f is the face list, o the order list
 

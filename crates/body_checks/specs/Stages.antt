@@ -3,16 +3,15 @@
 use mathlib.Core.Path.{_≡_}
 use mathlib.Core.Bool.{false}
 use mathlib.Core.List.{List}
-use Prim.Native.Nat.{ℕ, _*_, _≤_}
+use Prim.Native.Nat.{ℕ, _≤_}
 use lib.Ieee.{Float}
 use lib.ListN.{length}
 use Rattle.refusals.specs.Causes.{orElse, firstOf}
 use Rattle.refusals.specs.declared.Cause.{Cause}
 use Rattle.mesh.specs.Surface.{Body}
-use Rattle.layout.specs.LittleEndian.{unpack}
 use Rattle.rows.specs.Kinds.{isMesh}
 use Rattle.sheet.specs.Writer.{outOfLimits, noSuchVertex}
-use Rattle.sheet.specs.Checker.{kindIn, facesIn, stationsIn, matesStart, parse, orderIn, matesIn, wrongOrder, wrongMate, solidCause, wrongVolume, checkStation}
+use Rattle.sheet.specs.Checker.{kindIn, stationsIn, parse, orderIn, matesIn, wrongOrder, wrongMate, solidCause, wrongVolume, checkStation}
 use Rattle.readers.specs.Opened.{Opened}
 
 module _ (b : List ℕ) where
@@ -38,11 +37,6 @@ pub record Loaded (b : List ℕ) (v : List Float) (f o : List ℕ) : Type 0 wher
   pub vertices : v ≡ parse b .vertices
   pub faces : f ≡ parse b .faces
   pub order : o ≡ orderIn b
-
--- the mates m of the first edge uses, as they stand in it
-pub record MatesRead (b m : List ℕ) : Type 0 where
-  pub few : length m ≤ 3 * facesIn b
-  pub mates : m ≡ unpack 4 (length m) b (matesStart b)
 
 -- what 4 leaves of them: a body, whose prism has two corners
 pub record Ready (b : List ℕ) (v : List Float) (f : List ℕ) : Type 0 where

@@ -1,13 +1,13 @@
 // The causes 3, 4, 17 and 18, then 7 and 8 or 9, and 19, of a sheet that 16, 1 and 2 let through.
 ghost use mathlib.Core.Path.{_≡_};
-ghost use Prim.Native.Nat.{_*_, _≤_};
+ghost use Prim.Native.Nat.{_*_};
 ghost use lib.ListN.{length};
 ghost use Rattle.mesh.specs.Check.{meshOf};
 ghost use Rattle.sheet.specs.Bytes.{volume};
 ghost use Rattle.sheet.specs.Writer.{outOfLimits};
-ghost use Rattle.sheet.specs.Checker.{facesIn, parse, orderIn, solidCause};
+ghost use Rattle.sheet.specs.Checker.{facesIn, parse, orderIn, matesIn, solidCause};
 ghost use Rattle.readers.specs.Opened.{Opened};
-ghost use Rattle.body_checks.specs.Stages.{listsCause, volumeCause, MatesRead, Ready};
+ghost use Rattle.body_checks.specs.Stages.{listsCause, volumeCause, Ready};
 use layout::read_u32s;
 use list_scans::wrong_lists;
 use mesh::Mesh;
@@ -55,10 +55,9 @@ pub fn lists_cause(sheet: &[u8], faces: &mut [u32], order: &mut [u32]) -> Cause
     wrong_lists(faces, order, sheet, 24 * v + 24 * f)
 }
 
-// Reads the mates of the first edge uses, as many as there is room for.
 pub fn read_mates(sheet: &[u8], mates: &mut [u32])
-    requires { ⌜ Opened (now sheet) × (length (now mates) ≤ 3 * facesIn (now sheet)) ⌝ }
-    ensures { λ _. ⌜ (length (now (mates .exit)) ≡ length (now (mates .entry))) × MatesRead (now (sheet .entry)) (now (mates .exit)) ⌝ }
+    requires { ⌜ Opened (now sheet) × (length (now mates) ≡ 3 * facesIn (now sheet)) ⌝ }
+    ensures { λ _. ⌜ now (mates .exit) ≡ matesIn (now (sheet .entry)) ⌝ }
 {
     let v = readers::vertices(sheet) as usize;
     let f = readers::faces(sheet) as usize;

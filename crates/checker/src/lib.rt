@@ -11,28 +11,30 @@ ghost use Rattle.refusals.specs.declared.Cause.the-variants.{None};
 ghost use Rattle.sheet.specs.Checker.{verticesIn, facesIn, checkerCause, verdict};
 ghost use Rattle.sheet.specs.Promises.{Right};
 ghost use Rattle.readers.specs.Opened.{Opened};
-ghost use Rattle.body_checks.specs.Stages.{listsCause, volumeCause, stationsCause, bodyCause, Loaded, MatesRead};
+ghost use Rattle.body_checks.specs.Stages.{listsCause, volumeCause, stationsCause, bodyCause, Loaded};
 use layout::read_f64s;
 use refusals::Cause;
 use sheet::Verdict;
 
-// The causes after 4, 17 and 18, of lists that were read. logs is room.
+// The causes after 4, 17 and 18, of lists that were read. Once the center is known, order serves for the mates. logs is room for logarithms, as many as it holds.
 fn loaded_cause(
     sheet: &[u8],
     verts: &[f64],
     faces: &[u32],
-    order: &[u32],
-    mates: &[u32],
+    order: &mut [u32],
     logs: &mut [f64],
 ) -> Cause
-    requires { ⌜ Loaded (now sheet) (now verts) (now faces) (now order) × (listsCause (now sheet) ≡ None) × MatesRead (now sheet) (now mates) × (length (now logs) ≡ length (now mates)) ⌝ }
+    requires { ⌜ Loaded (now sheet) (now verts) (now faces) (now order) × (listsCause (now sheet) ≡ None) × (length (now logs) ≤ 3 * facesIn (now sheet)) ⌝ }
     ensures { λ r. ⌜ r ≡ orElse (volumeCause (now (sheet .entry))) (stationsCause (now (sheet .entry))) ⌝ }
 {
     let volume = body_checks::volume_cause(sheet, verts, faces);
     if let Cause::Refused(r) = volume {
         return Cause::Refused(r);
     }
-    station_checks::stations_cause(sheet, verts, faces, order, mates, logs)
+    let c = station_checks::center_of(sheet, verts, faces, order);
+    body_checks::read_mates(sheet, order);
+    let n = logs.len();
+    station_checks::stations_cause(sheet, c, verts, faces, &order[..n], logs)
 }
 
 // The causes after 16, 1 and 2, with room for the lists.
@@ -41,11 +43,10 @@ fn body_cause(
     verts: &mut [f64],
     faces: &mut [u32],
     order: &mut [u32],
-    mates: &mut [u32],
     logs: &mut [f64],
 ) -> Cause
     requires { ⌜ Opened (now sheet) × (length (now verts) ≡ 3 * verticesIn (now sheet)) × (length (now faces) ≡ 3 * facesIn (now sheet)) × (length (now order) ≡ 3 * facesIn (now sheet))
-        × (length (now mates) ≤ 3 * facesIn (now sheet)) × (length (now logs) ≡ length (now mates)) ⌝ }
+        × (length (now logs) ≤ 3 * facesIn (now sheet)) ⌝ }
     ensures { λ r. ⌜ r ≡ bodyCause (now (sheet .entry)) ⌝ }
 {
     read_f64s(sheet, 0, verts);
@@ -57,8 +58,7 @@ fn body_cause(
     if let Cause::Refused(r) = lists {
         return Cause::Refused(r);
     }
-    body_checks::read_mates(sheet, mates);
-    loaded_cause(sheet, verts, faces, order, mates, logs)
+    loaded_cause(sheet, verts, faces, order, logs)
 }
 
 fn fewer(a: usize, b: usize) -> usize
@@ -70,29 +70,26 @@ fn fewer(a: usize, b: usize) -> usize
     b
 }
 
-// The same, with room to spare; of the mates and the logarithms only as many as there is room for.
+// The same, with room to spare, but for the logarithms, of which there may be fewer.
 pub(crate) fn in_room(
     sheet: &[u8],
     verts: &mut [f64],
     faces: &mut [u32],
     order: &mut [u32],
-    mates: &mut [u32],
     logs: &mut [f64],
 ) -> Cause
-    requires { ⌜ Opened (now sheet) × (3 * verticesIn (now sheet) ≤ length (now verts)) × (3 * facesIn (now sheet) ≤ length (now faces)) × (3 * facesIn (now sheet) ≤ length (now order))
-        × (length (now logs) ≡ length (now mates)) ⌝ }
+    requires { ⌜ Opened (now sheet) × (3 * verticesIn (now sheet) ≤ length (now verts)) × (3 * facesIn (now sheet) ≤ length (now faces)) × (3 * facesIn (now sheet) ≤ length (now order)) ⌝ }
     ensures { λ r. ⌜ r ≡ bodyCause (now (sheet .entry)) ⌝ }
 {
     let v = 3 * (readers::vertices(sheet) as usize);
     let f = 3 * (readers::faces(sheet) as usize);
-    let m = fewer(f, mates.len());
+    let n = fewer(f, logs.len());
     body_cause(
         sheet,
         &mut verts[..v],
         &mut faces[..f],
         &mut order[..f],
-        &mut mates[..m],
-        &mut logs[..m],
+        &mut logs[..n],
     )
 }
 

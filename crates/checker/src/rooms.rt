@@ -1,5 +1,5 @@
-// Room for a body's vertices, faces and order list, and for the mates and logarithms of its edge uses, in six sizes: to clear the largest takes longer than to check
-// a small body. The two largest have mates and logarithms of the first uses only, so that no room is over 1.5 MB; the fields of their bodies take a little longer.
+// Room for a body's vertices, faces and order list, and for a logarithm of each edge use, in six sizes: to clear the largest takes longer than to check a small body.
+// The largest has logarithms of the first uses only, so that it stays under 1.5 MB; the fields of its bodies take a little longer.
 ghost use mathlib.Core.Path.{_≡_};
 ghost use mathlib.Core.Bool.{_&&_};
 ghost use Prim.Native.Nat.{_*_, _≤_, _<_};
@@ -96,16 +96,10 @@ fn uses_10240() -> [u32; 61440]
     [0; 61440]
 }
 
-fn mates_10240() -> [u32; 49152]
-    ensures { λ r. ⌜ length r ≡ 49152 ⌝ }
+fn logs_10240() -> [f64; 61440]
+    ensures { λ r. ⌜ length r ≡ 61440 ⌝ }
 {
-    [0; 49152]
-}
-
-fn logs_10240() -> [f64; 49152]
-    ensures { λ r. ⌜ length r ≡ 49152 ⌝ }
-{
-    [0.0; 49152]
+    [0.0; 61440]
 }
 
 fn vertices_all() -> [f64; 60000]
@@ -120,16 +114,10 @@ fn uses_all() -> [u32; 98304]
     [0; 98304]
 }
 
-fn mates_all() -> [u32; 16384]
-    ensures { λ r. ⌜ length r ≡ 16384 ⌝ }
+fn logs_all() -> [f64; 24576]
+    ensures { λ r. ⌜ length r ≡ 24576 ⌝ }
 {
-    [0; 16384]
-}
-
-fn logs_all() -> [f64; 16384]
-    ensures { λ r. ⌜ length r ≡ 16384 ⌝ }
-{
-    [0.0; 16384]
+    [0.0; 24576]
 }
 
 // At most 40 vertices and 80 faces.
@@ -140,16 +128,8 @@ fn in_room_40(sheet: &[u8]) -> Cause
     let mut verts = vertices_40();
     let mut faces = uses_40();
     let mut order = uses_40();
-    let mut mates = uses_40();
     let mut logs = logs_40();
-    in_room(
-        sheet,
-        &mut verts,
-        &mut faces,
-        &mut order,
-        &mut mates,
-        &mut logs,
-    )
+    in_room(sheet, &mut verts, &mut faces, &mut order, &mut logs)
 }
 
 // At most 160 vertices and 320 faces.
@@ -160,16 +140,8 @@ fn in_room_160(sheet: &[u8]) -> Cause
     let mut verts = vertices_160();
     let mut faces = uses_160();
     let mut order = uses_160();
-    let mut mates = uses_160();
     let mut logs = logs_160();
-    in_room(
-        sheet,
-        &mut verts,
-        &mut faces,
-        &mut order,
-        &mut mates,
-        &mut logs,
-    )
+    in_room(sheet, &mut verts, &mut faces, &mut order, &mut logs)
 }
 
 // At most 640 vertices and 1,280 faces.
@@ -180,16 +152,8 @@ fn in_room_640(sheet: &[u8]) -> Cause
     let mut verts = vertices_640();
     let mut faces = uses_640();
     let mut order = uses_640();
-    let mut mates = uses_640();
     let mut logs = logs_640();
-    in_room(
-        sheet,
-        &mut verts,
-        &mut faces,
-        &mut order,
-        &mut mates,
-        &mut logs,
-    )
+    in_room(sheet, &mut verts, &mut faces, &mut order, &mut logs)
 }
 
 // At most 2,560 vertices and 5,120 faces.
@@ -200,16 +164,8 @@ fn in_room_2560(sheet: &[u8]) -> Cause
     let mut verts = vertices_2560();
     let mut faces = uses_2560();
     let mut order = uses_2560();
-    let mut mates = uses_2560();
     let mut logs = logs_2560();
-    in_room(
-        sheet,
-        &mut verts,
-        &mut faces,
-        &mut order,
-        &mut mates,
-        &mut logs,
-    )
+    in_room(sheet, &mut verts, &mut faces, &mut order, &mut logs)
 }
 
 // At most 10,240 vertices and 20,480 faces.
@@ -220,16 +176,8 @@ fn in_room_10240(sheet: &[u8]) -> Cause
     let mut verts = vertices_10240();
     let mut faces = uses_10240();
     let mut order = uses_10240();
-    let mut mates = mates_10240();
     let mut logs = logs_10240();
-    in_room(
-        sheet,
-        &mut verts,
-        &mut faces,
-        &mut order,
-        &mut mates,
-        &mut logs,
-    )
+    in_room(sheet, &mut verts, &mut faces, &mut order, &mut logs)
 }
 
 // Every body within document 01's limits.
@@ -240,16 +188,8 @@ fn in_room_all(sheet: &[u8]) -> Cause
     let mut verts = vertices_all();
     let mut faces = uses_all();
     let mut order = uses_all();
-    let mut mates = mates_all();
     let mut logs = logs_all();
-    in_room(
-        sheet,
-        &mut verts,
-        &mut faces,
-        &mut order,
-        &mut mates,
-        &mut logs,
-    )
+    in_room(sheet, &mut verts, &mut faces, &mut order, &mut logs)
 }
 
 // Whether the room for n vertices holds the body.

@@ -46,19 +46,26 @@ fn station_cause(
     Cause::Refused(Refusal::WrongRow(i))
 }
 
+// The center, for `stations_cause`.
+pub fn center_of(sheet: &[u8], verts: &[f64], faces: &[u32], order: &[u32]) -> Center
+    requires { ⌜ Ready (now sheet) (now verts) (now faces) × (now order ≡ orderList (now faces)) ⌝ }
+    ensures { λ r. ⌜ CenterOf (kindIn (now (sheet .entry))) r (now (verts .entry)) (now (faces .entry)) ⌝ }
+{
+    rows::center_of(readers::kind(sheet), verts, faces, order)
+}
+
 // The stations in order.
 pub fn stations_cause(
     sheet: &[u8],
+    c: Center,
     verts: &[f64],
     faces: &[u32],
-    order: &[u32],
     mates: &[u32],
     logs: &mut [f64],
 ) -> Cause
-    requires { ⌜ Ready (now sheet) (now verts) (now faces) × (now order ≡ orderList (now faces)) × Mated (now faces) (now mates) (now logs) ⌝ }
+    requires { ⌜ Ready (now sheet) (now verts) (now faces) × CenterOf (kindIn (now sheet)) c (now verts) (now faces) × Mated (now faces) (now mates) (now logs) ⌝ }
     ensures { λ r. ⌜ r ≡ stationsCause (now (sheet .entry)) ⌝ }
 {
-    let c = rows::center_of(readers::kind(sheet), verts, faces, order);
     let t = readers::trailer(sheet);
     let m = vector_at(sheet, t + 16);
     let a = vector_at(sheet, t + 40);

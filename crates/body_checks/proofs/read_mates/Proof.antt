@@ -1,4 +1,5 @@
 -- `body_checks::read_mates` meets its contract. Assumes nothing.
+use mathlib.Core.Path.{_∙_}
 use native.Mathlib.Omega.{arith}
 use denote.Ref.{now}
 use borrow.Author.Needs.{needs}
@@ -11,7 +12,7 @@ returns c =
     let read = c .before .before in
     let f = read .before .before in
     let st = f .before .before .before .before in
-    mates-loaded (now (st .args .sheet)) (read .read-u32s .last .1 .1 .0) (read .read-u32s .ensures) (st .pre .1) (omega (arith, f .before .vertices .ensures, f .faces .ensures))
+    read .read-u32s .ensures ∙ mates-loaded (now (st .args .sheet)) (st .pre .1) (omega (arith, f .before .vertices .ensures, f .faces .ensures))
 
 pub read-mates-spec : {M : Type 1} → statement M
 read-mates-spec =

@@ -12,7 +12,7 @@ use Rattle.checker.proofs.body_cause.Tie as tie
 
 -- where the call begins
 abbrev start : tie.After-read-f64s → tie.Start
-start c = c .before .before .before .before .before .before .before .before
+start c = c .before .before .before .before .before .before .before
 
 -- where the vertices were read, and where the lists were
 abbrev read : tie.After-out-of-limits → tie.After-read-f64s
@@ -36,33 +36,26 @@ returns-2 : tie.Need-returns-2
 unfolding bodyCause
 returns-2 c = let l = c .before .before .before .before .before .before .before in rw (within l, sym (l .lists-cause .ensures .0) ∙ c .before .lists .given .1)
 
--- where the mates were read, and before it no cause was found
-abbrev told : tie.After-read-mates → tie.After-enum-told2
-told c = c .before .before
+-- where the lists were tried
+abbrev listed : tie.After-enum-told2 → tie.After-lists-cause
+listed c = c .before .before .before .before .before .before
 
-abbrev listed : tie.After-read-mates → tie.After-lists-cause
-listed c = told c .before .before .before .before .before .before
-
-none : (c : tie.After-read-mates) → listsCause (now (start (read (tried (listed c))) .args .sheet)) ≡ None
-none c = sym (listed c .lists-cause .ensures .0) ∙ told c .enum-told2 .given .1
+none : (c : tie.After-enum-told2) → listsCause (now (start (read (tried (listed c))) .args .sheet)) ≡ None
+none c = sym (listed c .lists-cause .ensures .0) ∙ c .enum-told2 .given .1
 
 loaded-cause-requires : tie.Need-loaded-cause-requires
 loaded-cause-requires c κs =
-    let m = c .before .before .before .before .before .before .before in
-    let l = listed m in
-    let r = read (tried l) in (
-      record { opened = start r .pre .0; vertices = verts-read r; faces = l .lists-cause .ensures .1 .0; order = l .lists-cause .ensures .1 .1 },
-      none m,
-      m .read-mates .ensures .1,
-      start r .pre .5 ∙ sym (m .read-mates .ensures .0),
-    )
+    let told = c .before .before .before .before in
+    let l = listed told in
+    let r = read (tried l) in
+    (record { opened = start r .pre .0; vertices = verts-read r; faces = l .lists-cause .ensures .1 .0; order = l .lists-cause .ensures .1 .1 }, none told, start r .pre .4)
 
 returns-3 : tie.Need-returns-3
 unfolding bodyCause
 returns-3 c =
-    let loaded = c .before .before in
-    let m = loaded .before .before .before .before .before .before .before .before in
-    rw (within (listed m), none m) (loaded .loaded-cause .ensures)
+    let loaded = c .before .before .before .before in
+    let told = loaded .before .before .before .before .before in
+    rw (within (listed told), none told) (loaded .loaded-cause .ensures)
 
 pub body-cause-spec : {M : Type 1} → statement M
 body-cause-spec =
@@ -81,9 +74,7 @@ body-cause-spec =
     (λ c. search needs)
     returns-2
     (λ c. search needs)
-    (λ c κs. search needs)
     loaded-cause-requires
-    (λ c. search needs)
     (λ c. search needs)
     (λ c. search needs)
     (λ c. search needs)

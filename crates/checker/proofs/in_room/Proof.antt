@@ -16,7 +16,7 @@ use Rattle.checker.proofs.in_room.Tie as tie
 
 -- where the call begins
 abbrev start : tie.After-faces → tie.Start
-start c = c .before .before .before .before .before .before .before .before
+start c = c .before .before .before .before .before .before .before
 
 verts-length : (c : tie.After-faces) → length (take (3 * c .before .vertices .result) (now (start c .args .verts))) ≡ 3 * c .before .vertices .result
 verts-length c = length-take-le (3 * c .before .vertices .result) (now (start c .args .verts)) (omega (arith, c .before .vertices .ensures, start c .pre .1))
@@ -27,33 +27,26 @@ faces-length c = length-take-le (3 * c .faces .result) (now (start c .args .face
 order-length : (c : tie.After-faces) → length (take (3 * c .faces .result) (now (start c .args .order))) ≡ 3 * c .faces .result
 order-length c = length-take-le (3 * c .faces .result) (now (start c .args .order)) (omega (arith, c .faces .ensures, start c .pre .3))
 
--- as many mates as there is room for
+-- as many logarithms as there is room for
 few : (f n : ℕ) → (cond (ltb f n) f n ≤ f) × (cond (ltb f n) f n ≤ n)
 few f n = ⊎-elim (λ l. simp (lt-ltb f n l) (omega arith, omega arith)) (λ l. simp (le-ltb f n l) (l, omega arith)) (below? f n)
 
-as-many : (c : tie.After-fewer) → (c .fewer .result ≤ 3 * c .before .faces .result) × (c .fewer .result ≤ length (now (start (c .before) .args .mates)))
-as-many c = let w = few (3 * c .before .faces .result) (length (now (start (c .before) .args .mates))) in (omega (arith, c .fewer .ensures, w .0), omega (arith, c .fewer .ensures, w .1))
-
-mates-length : (c : tie.After-fewer) → length (take (c .fewer .result) (now (start (c .before) .args .mates))) ≡ c .fewer .result
-mates-length c = length-take-le (c .fewer .result) (now (start (c .before) .args .mates)) (as-many c .1)
-
-logs-room : (c : tie.After-fewer) → c .fewer .result ≤ length (now (start (c .before) .args .logs))
-logs-room c = omega (arith, as-many c .1, start (c .before) .pre .4)
+as-many : (c : tie.After-fewer) → (c .fewer .result ≤ 3 * c .before .faces .result) × (c .fewer .result ≤ length (now (start (c .before) .args .logs)))
+as-many c = let w = few (3 * c .before .faces .result) (length (now (start (c .before) .args .logs))) in (omega (arith, c .fewer .ensures, w .0), omega (arith, c .fewer .ensures, w .1))
 
 logs-length : (c : tie.After-fewer) → length (take (c .fewer .result) (now (start (c .before) .args .logs))) ≡ c .fewer .result
-logs-length c = length-take-le (c .fewer .result) (now (start (c .before) .args .logs)) (logs-room c)
+logs-length c = length-take-le (c .fewer .result) (now (start (c .before) .args .logs)) (as-many c .1)
 
 body-cause-requires : tie.Need-body-cause-requires
 body-cause-requires c κs =
-    let m = c .before .before .before .before .before in
-    let f = m .before in
+    let n = c .before .before .before .before in
+    let f = n .before in
     let v = f .before .vertices .ensures in (
       start f .pre .0,
       verts-length f ∙ omega (arith, v),
       faces-length f ∙ omega (arith, f .faces .ensures),
       order-length f ∙ omega (arith, f .faces .ensures),
-      omega (arith, mates-length m, as-many m .0, f .faces .ensures),
-      logs-length m ∙ sym (mates-length m),
+      omega (arith, logs-length n, as-many n .0, f .faces .ensures),
     )
 
 pub in-room-spec : {M : Type 1} → statement M
@@ -74,11 +67,8 @@ in-room-spec =
     (λ c. search needs)
     (λ c. sym (order-length (c .before .before .before .before)))
     (λ c. as-many (c .before .before .before) .1)
-    (λ c. sym (mates-length (c .before .before .before .before)))
-    (λ c. logs-room (c .before .before .before .before))
-    (λ c. sym (logs-length (c .before .before .before .before .before)))
+    (λ c. sym (logs-length (c .before .before .before .before)))
     body-cause-requires
-    (λ c. search needs)
     (λ c. search needs)
     (λ c. search needs)
     (λ c. search needs)

@@ -15,26 +15,26 @@ use Rattle.station_checks.proofs.stations_cause.Statement.{statement}
 use Rattle.station_checks.proofs.stations_cause.Tie as tie
 
 abbrev Inv-loop : tie.InvT-loop
-Inv-loop sheet verts faces order mates logs₀ c t m a n i₀ logs i = (i ≤ n) × (firstOf i (checkStation sheet (parse sheet)) ≡ None) × (length logs ≡ length logs₀)
+Inv-loop sheet c verts faces mates logs₀ t m a n i₀ logs i = (i ≤ n) × (firstOf i (checkStation sheet (parse sheet)) ≡ None) × (length logs ≡ length logs₀)
 
 abbrev μ-loop : tie.MeasureT-loop
-μ-loop sheet verts faces order mates logs₀ c t m a n i₀ logs i = n - i
+μ-loop sheet c verts faces mates logs₀ t m a n i₀ logs i = n - i
 
 none : (c : ℕ → Cause) → firstOf 0 c ≡ None
 unfolding firstOf
 none c = refl
 
 -- where the call begins
-abbrev start : tie.After-kind Inv-loop μ-loop → tie.Start Inv-loop μ-loop
-start c = c .before .before .before .before .before .before .before
+abbrev start : tie.After-trailer Inv-loop μ-loop → tie.Start Inv-loop μ-loop
+start c = c .before .before .before .before .before .before
 
 -- the trailer is there
-trailed : (c : tie.After-kind Inv-loop μ-loop) → 80 ≤ length (now (start c .args .sheet))
+trailed : (c : tie.After-trailer Inv-loop μ-loop) → 80 ≤ length (now (start c .args .sheet))
 trailed c = start c .pre .0 .opened .trailer
 
 -- what was read before the loop
-abbrev entered : tie.At-loop Inv-loop μ-loop → tie.After-kind Inv-loop μ-loop
-entered c = c .before .before .before .before .before .before
+abbrev entered : tie.At-loop Inv-loop μ-loop → tie.After-trailer Inv-loop μ-loop
+entered c = c .before .before .before .before
 
 loop-holds : tie.Need-loop-holds Inv-loop μ-loop
 loop-holds c = (omega arith, none _, refl)
@@ -43,15 +43,14 @@ station-cause-requires : tie.Need-station-cause-requires Inv-loop μ-loop
 unfolding parse
 station-cause-requires c κs =
     let at = c .before .before in
-    let m = at .before .before .before in
-    let center = m .before .before in
-    let st = start (center .before) in (
-      st .pre .0,
-      rw (← center .before .kind .ensures) (center .center-of .ensures),
+    let t = entered at in
+    let h = start t .pre in (
+      h .0,
+      h .1,
       omega arith,
-      m .vector-at .ensures ∙ rw (m .before .trailer .ensures),
-      at .before .before .vector-at2 .ensures ∙ rw (m .before .trailer .ensures),
-      record { room = at .loop .inv .2 ∙ st .pre .2 .room; reverse = st .pre .2 .reverse },
+      at .before .before .before .vector-at .ensures ∙ rw (t .trailer .ensures),
+      at .before .before .vector-at2 .ensures ∙ rw (t .trailer .ensures),
+      record { room = at .loop .inv .2 ∙ h .2 .room; reverse = h .2 .reverse },
     )
 
 -- where station i was checked
@@ -90,14 +89,12 @@ stations-cause-spec =
     (tie.spec
     Inv-loop
     μ-loop
-    (λ c κs. c .before .before .before .before .before .before .pre .0 .opened .trailer)
-    (λ c κs. let h = start c .pre in λ m. (h .0 .body, h .1))
-    (λ c κs. trailed (c .before))
-    (λ c. omega (arith, trailed (c .before .before)))
-    (λ c κs. omega (arith, trailed (c .before .before)))
-    (λ c. omega (arith, trailed (c .before .before .before)))
-    (λ c κs. omega (arith, trailed (c .before .before .before)))
-    (λ c κs. trailed (c .before .before .before .before))
+    (λ c κs. c .before .before .before .before .before .pre .0 .opened .trailer)
+    (λ c. omega (arith, trailed c))
+    (λ c κs. omega (arith, trailed c))
+    (λ c. omega (arith, trailed (c .before)))
+    (λ c κs. omega (arith, trailed (c .before)))
+    (λ c κs. trailed (c .before .before))
     loop-holds
     station-cause-requires
     (λ c. search needs)
