@@ -225,8 +225,8 @@ fn tetrahedron() -> Mesh {
 fn checking(turns: usize) {
     println!("\n| sheet | check_sheet | its fields | ratio |\n|---|---|---|---|");
     let near = [(1, 1), (2, 1), (2, 8), (3, 1), (3, 2), (5, 1), (9, 1), (9, 2), (17, 1), (17, 2), (33, 1), (65, 1), (65, 2), (91, 1)];
-    let far = [(1, 1), (3, 1), (17, 1)];
-    for (n, count, kind, scale) in near.map(|(n, c)| (n, c, "near", 1.0)).into_iter().chain(far.map(|(n, c)| (n, c, "far", 9.0))) {
+    let rows = near.map(|(n, c)| (n, c, "near", 1.0)).into_iter().chain([1, 3, 17, 91].map(|n| (n, 1, "at 4 radii", 2.2))).chain([1, 3, 17].map(|n| (n, 1, "far", 9.0)));
+    for (n, count, kind, scale) in rows {
         let m = if n == 1 { tetrahedron() } else { sphere(n) };
         let v = points(&m.verts);
         let body = physica::Body::Mesh { verts: &v, faces: m.faces.as_chunks::<3>().0 };

@@ -6,6 +6,7 @@ ghost use lib.Dec.{ltb};
 ghost use lib.Ieee.{Float, nan};
 ghost use lib.ListN.{length, getD};
 ghost use Rattle.newtonian.specs.Field.{answerOf};
+ghost use Rattle.orders.specs.Edges.{maxFaces};
 ghost use Rattle.mesh.specs.Surface.{Body, faceCount};
 ghost use Rattle.on_edge.specs.Block.{Sized};
 ghost use Rattle.edge_terms.specs.EdgeTerms.{logarithm};
@@ -150,7 +151,7 @@ pub fn add_triangle(
     p: Vector,
     t: Triangle,
 ) -> Running
-    requires { ⌜ Sized (now keys) (now dyads) (run .count) × (length (now logs) ≡ length (now mates)) × (u < 98304) ⌝ }
+    requires { ⌜ Sized (now keys) (now dyads) (run .count) × (length (now logs) ≡ length (now mates)) × (u < 3 * maxFaces) ⌝ }
     ensures { λ r. ⌜ Sized (now (keys .exit)) (now (dyads .exit)) (r .count) × (length (now (logs .exit)) ≡ length (now (logs .entry))) ⌝ }
     ensures { λ r. ⌜ ((s : Sums) (g : ℕ → Float) → Carries s (now (keys .entry)) (now (dyads .entry)) run → Logged g (now (mates .entry)) (now (logs .entry)) u → Sides g p t u →
         Carries (addTriangle p t s) (now (keys .exit)) (now (dyads .exit)) r × Logged g (now (mates .entry)) (now (logs .exit)) (u + 3)) ⌝ }

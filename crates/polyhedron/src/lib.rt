@@ -70,6 +70,7 @@ fn single_point(p: Vector, verts: &[f64], faces: &[u32], order: &[u32]) -> Field
 {
     let c = centroid::centroid(verts, faces, order);
     let r = centroid::radius(c, verts, faces, order);
+    // No mates are at hand.
     let mut none = [0.0; 1];
     polyhedron_at(0, p, c, r, verts, faces, &faces[..0], &mut none[..0])
 }

@@ -28,6 +28,7 @@ fn put_row(
     ensures { λ r. ⌜ RowPut (inputOf kind (now (verts .entry)) (now (faces .entry)) magnetisation ambient (now (stations .entry))) i at r (now (out .entry)) (now (out .exit)) ⌝ }
 {
     let p = mesh::surface::vertex(stations, i);
+    // No mates are at hand.
     let mut none = [0.0; 1];
     match rows::row_at(
         kind,
