@@ -10,7 +10,7 @@ use Rattle.refusals.proofs.Causes.{both}
 use Rattle.sheet.specs.Checker.{kindIn, stationsIn, checkerCause, openingCause, verdict}
 use Rattle.sheet.specs.declared.Verdict as verdicts
 use Rattle.sheet.specs.Reading.{stations-read}
-use Rattle.body_checks.specs.Stages.{listsCause, volumeCause, stationsCause, bodyCause}
+use Rattle.checker_body.specs.Stages.{listsCause, volumeCause, stationsCause, bodyCause}
 
 in-turn : (a b c : Cause) → orElse (orElse a b) c ≡ orElse a (orElse b c)
 in-turn None b c = refl

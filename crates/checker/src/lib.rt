@@ -10,11 +10,11 @@ ghost use Rattle.refusals.specs.Causes.{orElse};
 ghost use Rattle.refusals.specs.declared.Cause.the-variants.{None};
 ghost use Rattle.sheet.specs.Checker.{verticesIn, facesIn, checkerCause, verdict};
 ghost use Rattle.sheet.specs.Promises.{Right};
-ghost use Rattle.readers.specs.Opened.{Opened};
-ghost use Rattle.body_checks.specs.Stages.{listsCause, volumeCause, stationsCause, bodyCause, Loaded};
-use layout::read_f64s;
+ghost use Rattle.sheet_readers.specs.Opened.{Opened};
+ghost use Rattle.checker_body.specs.Stages.{listsCause, volumeCause, stationsCause, bodyCause, Loaded};
 use refusals::Cause;
 use sheet::Verdict;
+use sheet_layout::read_f64s;
 
 // The causes after 4, 17 and 18, of lists that were read. Once the center is known, order serves for the mates. logs is room for logarithms, as many as it holds.
 fn loaded_cause(
@@ -27,14 +27,14 @@ fn loaded_cause(
     requires { ⌜ Loaded (now sheet) (now verts) (now faces) (now order) × (listsCause (now sheet) ≡ None) × (length (now logs) ≤ 3 * facesIn (now sheet)) ⌝ }
     ensures { λ r. ⌜ r ≡ orElse (volumeCause (now (sheet .entry))) (stationsCause (now (sheet .entry))) ⌝ }
 {
-    let volume = body_checks::volume_cause(sheet, verts, faces);
+    let volume = checker_body::volume_cause(sheet, verts, faces);
     if let Cause::Refused(r) = volume {
         return Cause::Refused(r);
     }
-    let c = station_checks::center_of(sheet, verts, faces, order);
-    body_checks::read_mates(sheet, order);
+    let c = checker_stations::center_of(sheet, verts, faces, order);
+    checker_body::read_mates(sheet, order);
     let n = logs.len();
-    station_checks::stations_cause(sheet, c, verts, faces, &order[..n], logs)
+    checker_stations::stations_cause(sheet, c, verts, faces, &order[..n], logs)
 }
 
 // The causes after 16, 1 and 2, with room for the lists.
@@ -50,11 +50,11 @@ fn body_cause(
     ensures { λ r. ⌜ r ≡ bodyCause (now (sheet .entry)) ⌝ }
 {
     read_f64s(sheet, 0, verts);
-    let numbers = body_checks::out_of_limits(sheet, verts);
+    let numbers = checker_body::out_of_limits(sheet, verts);
     if let Cause::Refused(r) = numbers {
         return Cause::Refused(r);
     }
-    let lists = body_checks::lists_cause(sheet, faces, order);
+    let lists = checker_body::lists_cause(sheet, faces, order);
     if let Cause::Refused(r) = lists {
         return Cause::Refused(r);
     }
@@ -81,8 +81,8 @@ pub(crate) fn in_room(
     requires { ⌜ Opened (now sheet) × (3 * verticesIn (now sheet) ≤ length (now verts)) × (3 * facesIn (now sheet) ≤ length (now faces)) × (3 * facesIn (now sheet) ≤ length (now order)) ⌝ }
     ensures { λ r. ⌜ r ≡ bodyCause (now (sheet .entry)) ⌝ }
 {
-    let v = 3 * (readers::vertices(sheet) as usize);
-    let f = 3 * (readers::faces(sheet) as usize);
+    let v = 3 * (sheet_readers::vertices(sheet) as usize);
+    let f = 3 * (sheet_readers::faces(sheet) as usize);
     let n = fewer(f, logs.len());
     body_cause(
         sheet,
@@ -97,7 +97,7 @@ pub(crate) fn in_room(
 fn checker_cause(sheet: &[u8]) -> Cause
     ensures { λ r. ⌜ r ≡ checkerCause (now (sheet .entry)) ⌝ }
 {
-    let opening = readers::opening_cause(sheet);
+    let opening = sheet_readers::opening_cause(sheet);
     if let Cause::Refused(r) = opening {
         return Cause::Refused(r);
     }
@@ -114,5 +114,5 @@ pub fn check_sheet(sheet: &[u8]) -> Verdict
     if let Cause::Refused(r) = cause {
         return Verdict::Refused(r);
     }
-    Verdict::Accepted(readers::kind(sheet), readers::stations(sheet))
+    Verdict::Accepted(sheet_readers::kind(sheet), sheet_readers::stations(sheet))
 }

@@ -6,8 +6,8 @@ ghost use Prim.Native.Nat.{_*_, _≤_, _<_};
 ghost use lib.Dec.{leb};
 ghost use lib.ListN.{length};
 ghost use Rattle.sheet.specs.Checker.{verticesIn, facesIn};
-ghost use Rattle.readers.specs.Opened.{Opened};
-ghost use Rattle.body_checks.specs.Stages.{bodyCause};
+ghost use Rattle.sheet_readers.specs.Opened.{Opened};
+ghost use Rattle.checker_body.specs.Stages.{bodyCause};
 use crate::in_room;
 use refusals::Cause;
 
@@ -197,10 +197,10 @@ fn fits(sheet: &[u8], n: u32) -> bool
     requires { ⌜ Opened (now sheet) × (n < 80000) ⌝ }
     ensures { λ r. ⌜ r ≡ (leb (verticesIn (now (sheet .entry))) n && leb (facesIn (now (sheet .entry))) (2 * n)) ⌝ }
 {
-    if n < readers::vertices(sheet) {
+    if n < sheet_readers::vertices(sheet) {
         return false;
     }
-    readers::faces(sheet) <= 2 * n
+    sheet_readers::faces(sheet) <= 2 * n
 }
 
 // The causes after 16, 1 and 2, in the room for n vertices or, where that does not hold the body, in the next larger one. It calls itself, and so the compiler

@@ -13,7 +13,7 @@ use Rattle.newtonian.specs.declared.Vector.{Vector}
 use Rattle.carlson.specs.Rc.{times}
 use Rattle.carlson.specs.declared.Integral.{Integral}
 use Rattle.carlson.specs.declared.Integral.the-variants.{Value, Refused}
-use Rattle.rf_rd.specs.Rd.{rd}
+use Rattle.special_rf_rd.specs.Rd.{rd}
 
 -- N along the semi-axis z of an ellipsoid with semi-axes x, y, z
 unfoldable pub factor : Float → Float → Float → Integral

@@ -19,7 +19,7 @@ fn factor(x: f64, y: f64, z: f64) -> Integral
     ensures { λ r. ⌜ r ≡ factor x y z ⌝ }
 {
     let w = x * y * z / 3.0;
-    let d = rf_rd::rd(x * x, y * y, z * z);
+    let d = special_rf_rd::rd(x * x, y * y, z * z);
     match d {
         Integral::Refused(r) => Integral::Refused(r),
         Integral::Value(v) => Integral::Value(w * v),

@@ -9,7 +9,7 @@ use lib.Ieee.{Float}
 use borrow.Author.Tests.{eq-eqb, ne-eqb, le-leb, lt-leb}
 use Rattle.refusals.specs.declared.Refusal.the-variants.{Malformed, TooMany, TooShort}
 use Rattle.refusals.specs.declared.Cause.the-variants.{Refused}
-use Rattle.orders.specs.Edges.{maxVertices, maxFaces}
+use Rattle.mesh_orders.specs.Edges.{maxVertices, maxFaces}
 use Rattle.mesh.specs.Surface.{vertexCount, faceCount}
 use Rattle.mesh.specs.Check.{malformed, tooMany, tooShort, countCause}
 use Rattle.mesh.specs.CauseLaws.{malformed-none, many-none}

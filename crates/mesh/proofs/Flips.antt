@@ -12,11 +12,11 @@ use Rattle.refusals.specs.declared.Cause.the-variants.{None}
 use Rattle.refusals.specs.Causes.{unless, firstOf}
 use Rattle.refusals.proofs.Causes.{from-each, passes}
 use Rattle.lists.proofs.Numbers.{same?, below?}
-use Rattle.orders.specs.Edges.{from, to, has, occurrences, edge, Faces}
-use Rattle.orders.specs.Order.{orderList}
-use Rattle.orders.specs.EdgeLaws.{edge-self, has-own, number-has, small-to, occurs-two, edge-one}
+use Rattle.mesh_orders.specs.Edges.{from, to, has, occurrences, edge, Faces}
+use Rattle.mesh_orders.specs.Order.{orderList}
+use Rattle.mesh_orders.specs.EdgeLaws.{edge-self, has-own, number-has, small-to, occurs-two, edge-one}
 use Rattle.mesh.specs.Check.{occursOnce, flippedAt}
-use Rattle.orders.specs.OrderLaws.{order-length, order-below, place, places-apart, edge-le}
+use Rattle.mesh_orders.specs.OrderLaws.{order-length, order-below, place, places-apart, edge-le}
 
 module _ (f : List ℕ) (h : Faces f) where
   -- the edge at place k of the order list

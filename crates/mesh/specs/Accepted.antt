@@ -8,7 +8,7 @@ use lib.Ieee.{Float, nan, lt}
 use Rattle.doubles.specs.Constants.{0·0}
 use Rattle.doubles.specs.Magnitude.{withinLimits}
 use Rattle.lists.specs.Count.{Below}
-use Rattle.orders.specs.Edges.{maxVertices, maxFaces, from, to, occurrences}
+use Rattle.mesh_orders.specs.Edges.{maxVertices, maxFaces, from, to, occurrences}
 use Rattle.mesh.specs.Surface.{vertexCount, faceCount, Body, normal, isZero, volume}
 
 -- none of the causes 1, 2 and 12 holds, for a work list of n entries

@@ -17,7 +17,7 @@ use Rattle.refusals.proofs.Causes.{holds, passes, each, from-each}
 use Rattle.refusals.proofs.Causes as causes
 use Rattle.lists.specs.Count.{Below}
 use Rattle.lists.proofs.Numbers.{both}
-use Rattle.orders.specs.Edges.{maxVertices, maxFaces}
+use Rattle.mesh_orders.specs.Edges.{maxVertices, maxFaces}
 use Rattle.mesh.specs.Surface.{vertexCount, faceCount, Body, normal, isZero, volume}
 use Rattle.mesh.specs.Accepted.{Counted}
 use Rattle.mesh.specs.Check.{malformed, tooMany, tooShort, countCause, inLimits, outOfLimits, namesVertex, noSuchVertex, hasNormal, degenerateFace, inverted}

@@ -15,8 +15,8 @@ use Rattle.refusals.specs.Numbers.{numberOf}
 use Rattle.refusals.specs.Causes.{orElse, unless, firstOf}
 use Rattle.refusals.specs.Answer.{Answer, value, refused}
 use Rattle.lists.specs.Count.{count}
-use Rattle.orders.specs.Edges.{maxVertices, maxFaces, from, to, occurrences}
-use Rattle.orders.specs.Order.{orderList}
+use Rattle.mesh_orders.specs.Edges.{maxVertices, maxFaces, from, to, occurrences}
+use Rattle.mesh_orders.specs.Order.{orderList}
 use Rattle.mesh.specs.Surface.{vertexCount, faceCount, normal, isZero, volume}
 use Rattle.mesh.specs.declared.Mesh.{Mesh}
 

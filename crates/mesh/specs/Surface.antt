@@ -6,7 +6,7 @@ use Prim.Native.Nat.{ℕ, _+_, _*_, _/_}
 use lib.ListN.{length, getD}
 use lib.Ieee.{Float, nan, eq}
 use Rattle.lists.specs.Count.{Below}
-use Rattle.orders.specs.Edges.{Faces}
+use Rattle.mesh_orders.specs.Edges.{Faces}
 use Rattle.doubles.specs.Rounded.{_⊕_, _⊘_}
 use Rattle.doubles.specs.Constants.{0·0, 6·0}
 use Rattle.newtonian.specs.declared.Vector.{Vector}

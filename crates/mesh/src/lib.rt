@@ -4,8 +4,8 @@ pub mod surface;
 
 ghost use mathlib.Core.Path.{_≡_};
 ghost use Rattle.mesh.specs.Check.{countCause};
-use orders::edges::MAX_FACES;
-use orders::edges::MAX_VERTICES;
+use mesh_orders::edges::MAX_FACES;
+use mesh_orders::edges::MAX_VERTICES;
 use refusals::Cause;
 use refusals::Refusal;
 

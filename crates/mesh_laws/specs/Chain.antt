@@ -15,8 +15,8 @@ use Rattle.refusals.specs.declared.Cause.the-variants.{None, Refused}
 use Rattle.refusals.specs.Numbers.{numberOf}
 use Rattle.refusals.specs.Causes.{orElse, unless, firstOf}
 use Rattle.refusals.proofs.Causes.{both}
-use Rattle.orders.specs.Order.{orderList}
-use Rattle.orders.specs.Edges.{maxVertices, maxFaces}
+use Rattle.mesh_orders.specs.Order.{orderList}
+use Rattle.mesh_orders.specs.Edges.{maxVertices, maxFaces}
 use Rattle.mesh.specs.Surface.{vertexCount, faceCount, Body, volume}
 use Rattle.mesh.specs.Check.{malformed, tooMany, tooShort, inLimits, outOfLimits, namesVertex, noSuchVertex, occursOnce, flippedAt, flippedEdge, reverseOccurs, openAt, openEdge, hasNormal, degenerateFace, inverted, orderCause, surfaceCause, meshCause}
 use Rattle.mesh.specs.Accepted.{Sound}

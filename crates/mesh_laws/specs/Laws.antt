@@ -21,10 +21,10 @@ use Rattle.refusals.specs.Numbers.{numberOf}
 use Rattle.refusals.specs.Causes.{orElse, unless}
 use Rattle.refusals.proofs.Causes.{both, stop, refuses}
 use Rattle.lists.proofs.Numbers.{below?}
-use Rattle.orders.specs.Edges.{from, to, occurrences, Faces}
-use Rattle.orders.specs.Order.{orderList}
-use Rattle.orders.specs.OrderLaws.{order-length}
-use Rattle.orders.specs.EdgeLaws.{has-own, has-pair, occurs-some, some-use}
+use Rattle.mesh_orders.specs.Edges.{from, to, occurrences, Faces}
+use Rattle.mesh_orders.specs.Order.{orderList}
+use Rattle.mesh_orders.specs.OrderLaws.{order-length}
+use Rattle.mesh_orders.specs.EdgeLaws.{has-own, has-pair, occurs-some, some-use}
 use Rattle.mesh.specs.declared.Mesh.{Mesh}
 use Rattle.mesh.specs.Surface.{vertexCount, faceCount, normal, isZero, volume}
 use Rattle.mesh.specs.Check.{noSuchVertex, flippedEdge, openEdge, hasNormal, degenerateFace, inverted, orderCause, surfaceCause, meshCause, meshOf, checkMesh, workAfter}

@@ -5,7 +5,7 @@ use mathlib.Core.List.{List}
 use mathlib.Core.Logic.{_⊎_}
 use Prim.Native.Nat.{ℕ, _≤_, _<_}
 use lib.Ieee.{Float}
-use Rattle.orders.specs.Edges.{occurrences}
+use Rattle.mesh_orders.specs.Edges.{occurrences}
 use Rattle.mesh.specs.Surface.{faceCount, normal, isZero}
 
 -- (a, b) comes before (c, d), by from and then by to, or is the same

@@ -11,10 +11,10 @@ use Rattle.refusals.specs.declared.Cause.{Cause}
 use Rattle.refusals.specs.declared.Cause.the-variants.{None, Refused}
 use Rattle.refusals.specs.Causes.{orElse, unless, firstOf}
 use Rattle.lists.proofs.Numbers.{below?, true≢false}
-use Rattle.orders.specs.Edges.{from, to, occurrences, 2³², edgeNumber, Faces}
-use Rattle.orders.specs.Order.{orderList}
-use Rattle.orders.specs.EdgeLaws.{edge-self, has-own, has-pair, small-to, occurs-some, some-use}
-use Rattle.orders.specs.OrderLaws.{order-length, order-below, place, edge-le}
+use Rattle.mesh_orders.specs.Edges.{from, to, occurrences, 2³², edgeNumber, Faces}
+use Rattle.mesh_orders.specs.Order.{orderList}
+use Rattle.mesh_orders.specs.EdgeLaws.{edge-self, has-own, has-pair, small-to, occurs-some, some-use}
+use Rattle.mesh_orders.specs.OrderLaws.{order-length, order-below, place, edge-le}
 use Rattle.mesh_laws.specs.Refused.{NotAfter}
 use Rattle.mesh.specs.CauseLaws.{none-each, each-none}
 

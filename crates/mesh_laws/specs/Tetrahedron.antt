@@ -14,9 +14,9 @@ use Rattle.refusals.specs.declared.Cause.the-variants.{None, Refused}
 use Rattle.refusals.specs.Causes.{firstOf}
 use Rattle.newtonian.specs.Vectors.{difference, dot, cross}
 use Rattle.newtonian.specs.Fold.{Fold}
-use Rattle.orders.specs.Edges.{occurrences, edge, reverse}
-use Rattle.orders.specs.Order.{key, orderList}
-use Rattle.orders.specs.Mates.{mate, mates}
+use Rattle.mesh_orders.specs.Edges.{occurrences, edge, reverse}
+use Rattle.mesh_orders.specs.Order.{key, orderList}
+use Rattle.mesh_orders.specs.Mates.{mate, mates}
 use Rattle.mesh.specs.declared.Mesh.{Mesh}
 use Rattle.mesh.specs.Surface.{normal, isZero, faceVolume, volume}
 use Rattle.mesh.specs.Check.{malformed, tooMany, tooShort, outOfLimits, noSuchVertex, flippedEdge, openEdge, degenerateFace, inverted, orderCause, meshCause, meshOf, checkMesh}

@@ -9,7 +9,7 @@ use Rattle.refusals.specs.declared.Cause.{Cause}
 use Rattle.refusals.specs.declared.Cause.the-variants.{None, Refused}
 use Rattle.sheet.specs.Bytes.{trailerLength}
 use Rattle.sheet.specs.Checker.{rowsStart, openingCause, rowsPart}
-use Rattle.readers.proofs.Opening.{opened, no-rows, rows-from}
+use Rattle.sheet_readers.proofs.Opening.{opened, no-rows, rows-from}
 
 module _ (b : List ℕ) where
   -- the bytes of length n before the trailer

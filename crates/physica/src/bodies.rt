@@ -5,10 +5,10 @@ ghost use Rattle.prism.specs.Prism.{prism};
 ghost use Rattle.mesh.specs.Check.{checkMesh, meshCause, workAfter, answerOf};
 ghost use Rattle.polyhedron.specs.Polyhedron.{polyhedron, polyhedronCause};
 ghost use Rattle.newtonian.specs.Vectors.{fieldNumbers};
-ghost use Rattle.lent.specs.Exported.{vectorOf, itself, GivesValues};
-use lent::give::give_field;
-use lent::give::give_volume;
-use lent::take::vector_of;
+ghost use Rattle.physica_lent.specs.Exported.{vectorOf, itself, GivesValues};
+use physica_lent::give::give_field;
+use physica_lent::give::give_volume;
+use physica_lent::take::vector_of;
 
 // The field of a prism at a station: 3, 9, 10 with station 0.
 #[no_mangle]
@@ -40,7 +40,7 @@ pub extern "C" fn physica_check_mesh(
     ensures { λ r. ⌜ GivesValues itself (answerOf (checkMesh (now (verts .entry)) (now (faces .entry)) (length (now (work .entry))))) r (now (out .entry)) (now (out .exit)) (now (values .exit)) ⌝ }
     ensures work { λ _. ⌜ now (work .exit) ≡ workAfter (meshCause (now (verts .entry)) (now (faces .entry)) (length (now (work .entry)))) (now (faces .entry)) (now (work .entry)) ⌝ }
 {
-    give_volume(check_mesh::check_mesh(verts, faces, work), out, values)
+    give_volume(mesh_check::check_mesh(verts, faces, work), out, values)
 }
 
 // The field of a closed mesh at a station: 1, 2, 12, 3, 4, 5, 6, 7, 8, 11 with station 0.

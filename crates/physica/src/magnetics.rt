@@ -1,16 +1,16 @@
 // Magnetic fields and demagnetisation.
 ghost use Rattle.anomaly.specs.Body.{body};
 ghost use Rattle.anomaly.specs.TotalField.{totalField};
-ghost use Rattle.sphere.specs.Sphere.{sphere};
-ghost use Rattle.cylinder.specs.Cylinder.{cylinder};
+ghost use Rattle.anomaly_sphere.specs.Sphere.{sphere};
+ghost use Rattle.anomaly_cylinder.specs.Cylinder.{cylinder};
 ghost use Rattle.demagnetisation.specs.Ellipsoid.{ellipsoidFactors};
 ghost use Rattle.demagnetisation.specs.Magnetisation.{magnetisation, koenigsberger};
 ghost use Rattle.newtonian.specs.Vectors.{vectorNumbers};
-ghost use Rattle.lent.specs.Exported.{vectorOf, hessianOf, itself, Gives};
-use lent::give::give_number;
-use lent::give::give_vector;
-use lent::take::hessian_of;
-use lent::take::vector_of;
+ghost use Rattle.physica_lent.specs.Exported.{vectorOf, hessianOf, itself, Gives};
+use physica_lent::give::give_number;
+use physica_lent::give::give_vector;
+use physica_lent::take::hessian_of;
+use physica_lent::take::vector_of;
 
 // The field (T) of a body of that Hessian and magnetisation: 3.
 #[no_mangle]
@@ -50,7 +50,7 @@ pub extern "C" fn physica_sphere(
     ensures { λ r. ⌜ Gives vectorNumbers (sphere (vectorOf (now (p .entry))) (vectorOf (now (centre .entry))) radius (vectorOf (now (magnetisation .entry)))) r (now (out .entry)) (now (out .exit)) ⌝ }
 {
     give_vector(
-        sphere::sphere(
+        anomaly_sphere::sphere(
             vector_of(p),
             vector_of(centre),
             radius,
@@ -73,7 +73,7 @@ pub extern "C" fn physica_cylinder(
     ensures { λ r. ⌜ Gives vectorNumbers (cylinder (vectorOf (now (p .entry))) (vectorOf (now (point .entry))) (vectorOf (now (axis .entry))) radius (vectorOf (now (magnetisation .entry)))) r (now (out .entry)) (now (out .exit)) ⌝ }
 {
     give_vector(
-        cylinder::cylinder(
+        anomaly_cylinder::cylinder(
             vector_of(p),
             vector_of(point),
             vector_of(axis),

@@ -5,12 +5,12 @@ ghost use Rattle.rings.specs.Elliptic.{completeElliptic};
 ghost use Rattle.rings.specs.Cel.{cel};
 ghost use Rattle.rings.specs.Ring.{ring};
 ghost use Rattle.legendre.specs.GaussLegendre.{gaussLegendre};
-ghost use Rattle.lent.specs.Answers.{integralAnswer, completeAnswer, ringAnswer, ruleAnswer};
-ghost use Rattle.lent.specs.Exported.{Gives, itself, completeNumbers, ringNumbers, nodesOf, weightsOf};
-use lent::give::give_complete;
-use lent::give::give_integral;
-use lent::give::give_ring;
-use lent::give::give_rule;
+ghost use Rattle.physica_lent.specs.Answers.{integralAnswer, completeAnswer, ringAnswer, ruleAnswer};
+ghost use Rattle.physica_lent.specs.Exported.{Gives, itself, completeNumbers, ringNumbers, nodesOf, weightsOf};
+use physica_lent::give::give_complete;
+use physica_lent::give::give_integral;
+use physica_lent::give::give_ring;
+use physica_lent::give::give_rule;
 
 // R_C(x, y): 14, 15.
 #[no_mangle]

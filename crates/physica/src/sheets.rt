@@ -7,12 +7,12 @@ ghost use Rattle.sheet.specs.Checker.{verdict, rowsPart, rowPart};
 ghost use Rattle.sheet.specs.Promises.{Right};
 ghost use Rattle.sheet.specs.declared.Verdict.the-variants.{Accepted};
 ghost use Rattle.writer.specs.Written.{Writes};
-ghost use Rattle.lent.specs.Exported.{itself, GivesValues};
-ghost use Rattle.lent.specs.Sheets.{writtenAnswer, verdictAnswer, sheetInput, writeSheet, rowCount, rowAfter};
-use lent::give::give_verdict;
-use lent::give::give_written;
-use lent::take::row_numbers;
-use lent::take::vector_of;
+ghost use Rattle.physica_lent.specs.Exported.{itself, GivesValues};
+ghost use Rattle.physica_lent.specs.Sheets.{writtenAnswer, verdictAnswer, sheetInput, writeSheet, rowCount, rowAfter};
+use physica_lent::give::give_verdict;
+use physica_lent::give::give_written;
+use physica_lent::take::row_numbers;
+use physica_lent::take::vector_of;
 
 // Writes the sheet of a body and of the stations into the front of out; size is its length: 1, 2, 12, 3, 4, 5 to 8 or
 // 9, then by station 10 or 11, 13.
@@ -61,7 +61,7 @@ pub extern "C" fn physica_sheet_rows(sheet: &[u8]) -> usize
     ensures count { λ r. ⌜ r ≡ length (rowsPart (now (sheet .entry))) ⌝ }
     ensures place { λ r. ⌜ take r (drop (length (now (sheet .entry)) - (trailerLength + r)) (now (sheet .entry))) ≡ rowsPart (now (sheet .entry)) ⌝ }
 {
-    let rows = readers::sheet_rows(sheet);
+    let rows = sheet_readers::sheet_rows(sheet);
     rows.len()
 }
 
@@ -73,7 +73,7 @@ pub extern "C" fn physica_sheet_row(sheet: &[u8], i: usize, out: &mut [f64; 8]) 
     ensures count { λ r. ⌜ r ≡ rowCount (rowPart (now (sheet .entry)) i) ⌝ }
     ensures out { λ _. ⌜ now (out .exit) ≡ rowAfter (rowPart (now (sheet .entry)) i) (now (out .entry)) ⌝ }
 {
-    let row = readers::sheet_row(sheet, i);
+    let row = sheet_readers::sheet_row(sheet, i);
     if row.len() < ROW_LENGTH {
         return 0;
     }

@@ -15,8 +15,8 @@ use Rattle.refusals.specs.declared.Cause.{Cause}
 use Rattle.refusals.specs.declared.Cause.the-variants.{None, Refused}
 use Rattle.newtonian.specs.declared.Vector.{Vector}
 use Rattle.newtonian.specs.declared.Newtonian.{Newtonian}
-use Rattle.orders.specs.Order.{orderList}
-use Rattle.orders.specs.OrderLaws.{order-length}
+use Rattle.mesh_orders.specs.Order.{orderList}
+use Rattle.mesh_orders.specs.OrderLaws.{order-length}
 use Rattle.newtonian.specs.Vectors.{vectorWithinLimits}
 use Rattle.mesh.specs.declared.Mesh.{Mesh}
 use Rattle.mesh.specs.Surface.{Body, volume}
@@ -24,8 +24,8 @@ use Rattle.mesh.specs.Accepted.{Counted}
 use Rattle.mesh.specs.CauseLaws.{none-count}
 use Rattle.mesh.specs.Check.{countCause, outOfLimits, surfaceCause, meshCause, meshOf, checkMesh, leavesWork, workAfter}
 use Rattle.mesh_laws.specs.Laws.{checked, mesh-volume, mesh-refused, work-front}
-use Rattle.check_mesh.proofs.Answers.{not-counted}
-use Rattle.check_mesh.proofs.Work.{early-number, work-early}
+use Rattle.mesh_check.proofs.Answers.{not-counted}
+use Rattle.mesh_check.proofs.Work.{early-number, work-early}
 use Rattle.polyhedron.specs.Polyhedron.{stationCause, givenCause, polyhedronCause, polyhedronAt, polyhedron}
 
 module _ (p : Vector) (v : List Float) (f w : List ℕ) where

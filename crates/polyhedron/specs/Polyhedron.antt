@@ -15,9 +15,9 @@ use Rattle.newtonian.specs.Vectors.{vectorWithinLimits}
 use Rattle.newtonian.specs.declared.Vector.{Vector}
 use Rattle.newtonian.specs.declared.Newtonian.{Newtonian}
 use Rattle.mesh.specs.Check.{outOfLimits, countCause, surfaceCause}
-use Rattle.tetrahedra.specs.Tetrahedra.{tetrahedra}
-use Rattle.edge_face_sums.specs.EdgeFaceSums.{edgeFaceSums}
-use Rattle.centroid.specs.Centroid.{centroid, squaredDistance, radius}
+use Rattle.polyhedron_tetrahedra.specs.Tetrahedra.{tetrahedra}
+use Rattle.polyhedron_edge_face_sums.specs.EdgeFaceSums.{edgeFaceSums}
+use Rattle.polyhedron_centroid.specs.Centroid.{centroid, squaredDistance, radius}
 
 -- ---- a mesh that is checked
 

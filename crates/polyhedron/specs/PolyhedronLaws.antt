@@ -18,16 +18,16 @@ use Rattle.refusals.specs.declared.Cause.the-variants.{None, Refused}
 use Rattle.newtonian.specs.Vectors.{vectorWithinLimits}
 use Rattle.newtonian.specs.declared.Vector.{Vector}
 use Rattle.newtonian.specs.declared.Newtonian.{Newtonian}
-use Rattle.orders.specs.Edges.{maxVertices, maxFaces}
-use Rattle.orders.specs.Order.{orderList}
+use Rattle.mesh_orders.specs.Edges.{maxVertices, maxFaces}
+use Rattle.mesh_orders.specs.Order.{orderList}
 use Rattle.mesh.specs.Surface.{vertexCount, faceCount}
 use Rattle.mesh.specs.Check.{malformed, tooMany, tooShort, inLimits, outOfLimits, namesVertex, noSuchVertex, flippedEdge, openEdge, degenerateFace, inverted, countCause, surfaceCause}
 use Rattle.mesh_laws.specs.Smallest.{first-fail}
 use Rattle.mesh_laws.specs.Chain.{Only, only-flipped, only-open, only-degenerate, only-inverted}
-use Rattle.on_edge.specs.OnEdge.{edgeLimit}
-use Rattle.tetrahedra.specs.Tetrahedra.{tetrahedra}
-use Rattle.edge_face_sums.specs.EdgeFaceSums.{sumsOf, fieldOf, edgeFaceSums}
-use Rattle.centroid.specs.Centroid.{centroid, radius}
+use Rattle.polyhedron_on_edge.specs.OnEdge.{edgeLimit}
+use Rattle.polyhedron_tetrahedra.specs.Tetrahedra.{tetrahedra}
+use Rattle.polyhedron_edge_face_sums.specs.EdgeFaceSums.{sumsOf, fieldOf, edgeFaceSums}
+use Rattle.polyhedron_centroid.specs.Centroid.{centroid, radius}
 use Rattle.polyhedron.specs.Polyhedron.{isFar, polyhedronFrom, polyhedronAt, stationCause, givenCause, polyhedronCause, polyhedron}
 
 pub at-from : (i : ℕ) (p : Vector) (v : List Float) (f : List ℕ) → polyhedronAt i p v f ≡ polyhedronFrom i p (centroid v f) (radius (centroid v f) v f) v f

@@ -7,9 +7,9 @@ use refusals::Refusal;
 ghost use mathlib.Core.Path.{_≡_};
 ghost use lib.ListN.{length};
 ghost use Rattle.newtonian.specs.Field.{answerOf};
-ghost use Rattle.orders.specs.Order.{orderList};
+ghost use Rattle.mesh_orders.specs.Order.{orderList};
 ghost use Rattle.mesh.specs.Surface.{Body};
-ghost use Rattle.edge_face_sums.specs.Logarithms.{Mated};
+ghost use Rattle.polyhedron_edge_face_sums.specs.Logarithms.{Mated};
 ghost use Rattle.mesh.specs.Check.{workAfter};
 ghost use Rattle.polyhedron.specs.Polyhedron.{isFar, polyhedronFrom, polyhedronAt, givenCause, polyhedronCause, polyhedron};
 
@@ -20,7 +20,7 @@ const POLYHEDRON_FAR: f64 = 5.0;
 fn is_far(p: Vector, c: Vector, r: f64) -> bool
     ensures { λ b. ⌜ b ≡ isFar p c r ⌝ }
 {
-    roots::root(centroid::squared_distance(p, c)) > POLYHEDRON_FAR * r
+    roots::root(polyhedron_centroid::squared_distance(p, c)) > POLYHEDRON_FAR * r
 }
 
 // The field of a checked mesh at the station p of number i, with its centroid c and radius r. What it is given is not
@@ -40,9 +40,9 @@ pub fn polyhedron_at(
     ensures { λ _. ⌜ length (now (logs .exit)) ≡ length (now (logs .entry)) ⌝ }
 {
     if is_far(p, c, r) {
-        return Field::At(tetrahedra::tetrahedra(p, c, verts, faces));
+        return Field::At(polyhedron_tetrahedra::tetrahedra(p, c, verts, faces));
     }
-    edge_face_sums::edge_face_sums(i, p, verts, faces, mates, logs)
+    polyhedron_edge_face_sums::edge_face_sums(i, p, verts, faces, mates, logs)
 }
 
 // The causes 1, 2, 12 and 3.
@@ -68,8 +68,8 @@ fn single_point(p: Vector, verts: &[f64], faces: &[u32], order: &[u32]) -> Field
     requires { ⌜ Body (now verts) (now faces) × (now order ≡ orderList (now faces)) ⌝ }
     ensures { λ r. ⌜ answerOf r ≡ polyhedronAt 0 p (now (verts .entry)) (now (faces .entry)) ⌝ }
 {
-    let c = centroid::centroid(verts, faces, order);
-    let r = centroid::radius(c, verts, faces, order);
+    let c = polyhedron_centroid::centroid(verts, faces, order);
+    let r = polyhedron_centroid::radius(c, verts, faces, order);
     // No mates are at hand.
     let mut none = [0.0; 1];
     polyhedron_at(0, p, c, r, verts, faces, &faces[..0], &mut none[..0])
@@ -86,7 +86,7 @@ pub fn polyhedron(station: Vector, verts: &[f64], faces: &[u32], work: &mut [u32
     if let Cause::Refused(r) = given {
         return Field::Refused(r);
     }
-    let surface = check_mesh::check_surface(verts, faces, work);
+    let surface = mesh_check::check_surface(verts, faces, work);
     if let Mesh::Refused(r) = surface {
         return Field::Refused(r);
     }

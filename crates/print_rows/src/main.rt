@@ -11,15 +11,15 @@ fn print_row(row: &[u8]) {
         if j > 0 {
             io::write_all(STDOUT_FILENO, b" ");
         }
-        io::print_hex(STDOUT_FILENO, layout::u64_at(row, 8 * j), 16);
+        io::print_hex(STDOUT_FILENO, sheet_layout::u64_at(row, 8 * j), 16);
     }
     io::write_all(STDOUT_FILENO, b"\n");
 }
 
 fn print_all(sheet: &[u8]) {
-    let count = handle::row_count(sheet);
+    let count = sheet_handle::row_count(sheet);
     for i in 0..count {
-        print_row(handle::nth_row(sheet, i));
+        print_row(sheet_handle::nth_row(sheet, i));
     }
 }
 

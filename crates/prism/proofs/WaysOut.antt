@@ -6,9 +6,9 @@ use Rattle.refusals.specs.Answer.{value, refused}
 use Rattle.refusals.specs.declared.Refusal.the-variants.{TooDeep}
 use Rattle.newtonian.specs.declared.Vector.{Vector}
 use Rattle.newtonian.specs.declared.Newtonian.{Newtonian}
-use Rattle.bisection.specs.declared.AxisRule.{AxisRule}
-use Rattle.bisection.specs.declared.Piece.the-variants.{Whole, Halves}
-use Rattle.bisection.specs.Bisection.{pieceOf}
+use Rattle.prism_pieces.specs.declared.AxisRule.{AxisRule}
+use Rattle.prism_pieces.specs.declared.Piece.the-variants.{Whole, Halves}
+use Rattle.prism_pieces.specs.Bisection.{pieceOf}
 use Rattle.prism.specs.Prism.{join, pieces}
 
 module _ (rule : AxisRule) (i : ℕ) (p lo hi : Vector) where

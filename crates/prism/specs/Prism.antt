@@ -12,11 +12,11 @@ use Rattle.refusals.specs.declared.Refusal.the-variants.{OutOfLimits, TooThin, 
 use Rattle.newtonian.specs.Vectors.{addFields, vectorWithinLimits}
 use Rattle.newtonian.specs.declared.Vector.{Vector}
 use Rattle.newtonian.specs.declared.Newtonian.{Newtonian}
-use Rattle.bisection.specs.declared.AxisRule.{AxisRule}
-use Rattle.bisection.specs.declared.AxisRule.the-variants.{LastOfEquals}
-use Rattle.bisection.specs.declared.Piece.{Piece}
-use Rattle.bisection.specs.declared.Piece.the-variants.{Whole, Halves}
-use Rattle.bisection.specs.Bisection.{pieceOf}
+use Rattle.prism_pieces.specs.declared.AxisRule.{AxisRule}
+use Rattle.prism_pieces.specs.declared.AxisRule.the-variants.{LastOfEquals}
+use Rattle.prism_pieces.specs.declared.Piece.{Piece}
+use Rattle.prism_pieces.specs.declared.Piece.the-variants.{Whole, Halves}
+use Rattle.prism_pieces.specs.Bisection.{pieceOf}
 
 -- ---- the pieces
 

@@ -9,11 +9,11 @@ use Rattle.refusals.specs.declared.Refusal.{Refusal}
 use Rattle.refusals.specs.declared.Refusal.the-variants.{OutOfLimits, TooThin, TooDeep}
 use Rattle.newtonian.specs.declared.Vector.{Vector}
 use Rattle.newtonian.specs.declared.Newtonian.{Newtonian}
-use Rattle.bisection.specs.declared.AxisRule.{AxisRule}
-use Rattle.bisection.specs.declared.AxisRule.the-variants.{LastOfEquals}
-use Rattle.bisection.specs.declared.Piece.{Piece}
-use Rattle.bisection.specs.declared.Piece.the-variants.{Whole, Halves}
-use Rattle.bisection.specs.Bisection.{pieceOf}
+use Rattle.prism_pieces.specs.declared.AxisRule.{AxisRule}
+use Rattle.prism_pieces.specs.declared.AxisRule.the-variants.{LastOfEquals}
+use Rattle.prism_pieces.specs.declared.Piece.{Piece}
+use Rattle.prism_pieces.specs.declared.Piece.the-variants.{Whole, Halves}
+use Rattle.prism_pieces.specs.Bisection.{pieceOf}
 use Rattle.prism.specs.Prism.{join, fieldOr, pieces, maxBisections, prismAt, numbersWithinLimits, sidesWithinLimits, causeOf, prism}
 
 -- a refusal of a, if it is refused, is 10 with the station i

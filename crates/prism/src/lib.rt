@@ -1,10 +1,10 @@
 // The field of a rectangular prism, bisected where it is long and near.
-use bisection::AxisRule;
-use bisection::Piece;
 use newtonian::Field;
 use newtonian::Vector;
 use newtonian::add_fields;
 use newtonian::vector_within_limits;
+use prism_pieces::AxisRule;
+use prism_pieces::Piece;
 use refusals::Cause;
 use refusals::Refusal;
 ghost use mathlib.Core.Path.{_≡_};
@@ -32,7 +32,7 @@ fn join(a: Field, b: Field) -> Field
 fn pieces(rule: AxisRule, i: u32, n: u32, p: Vector, lo: Vector, hi: Vector) -> Field
     ensures { λ r. ⌜ answerOf r ≡ pieces rule i n p lo hi ⌝ }
 {
-    match bisection::piece_of(rule, p, lo, hi) {
+    match prism_pieces::piece_of(rule, p, lo, hi) {
         Piece::Whole(f) => Field::At(f),
         Piece::Halves(upper, lower) => {
             if n == 0 {

@@ -11,7 +11,7 @@ use lib.ListN.{length, getD, set, take, length-append}
 use lib.Seq.{sets, length-sets, length-take-le, take-suc}
 use borrow.Author.Tests.{lt-ltb, le-ltb}
 use Rattle.io.specs.Digits.{digits, Fewest}
-use Rattle.layout.proofs.Stores.{sets-then}
+use Rattle.sheet_layout.proofs.Stores.{sets-then}
 use Rattle.recheck_line.specs.Line.{places, decimal, lineOf, Holds}
 
 ten-pos : (k : ℕ) → 0 < 10 ^ k

@@ -6,7 +6,7 @@ use Rattle.doubles.specs.Constants.{0·0}
 use Rattle.refusals.specs.declared.Refusal.the-variants.{OutsideDomain}
 use Rattle.carlson.specs.declared.Integral.{Integral}
 use Rattle.carlson.specs.declared.Integral.the-variants.{Value, Refused}
-use Rattle.bulirsch.specs.Bulirsch.{celOf}
+use Rattle.special_bulirsch.specs.Bulirsch.{celOf}
 
 unfoldable pub allFinite : Float → Float → Float → Float → Bool
 allFinite kc p a b = finite kc && finite p && finite a && finite b

@@ -10,7 +10,7 @@ use Rattle.roots.specs.Root.{Root}
 use Rattle.refusals.specs.declared.Refusal.the-variants.{OutOfLimits, OutsideDomain}
 use Rattle.rings.specs.Constants.{9·10⁻⁸, 16·0, 72·0}
 use Rattle.rings.specs.Elliptic.{elliptic}
-use Rattle.bulirsch.specs.Bulirsch.{celOf}
+use Rattle.special_bulirsch.specs.Bulirsch.{celOf}
 use Rattle.rings.specs.declared.RingAverage.{RingAverage}
 use Rattle.rings.specs.declared.RingAnswer.{RingAnswer}
 use Rattle.rings.specs.declared.RingAnswer.the-variants.{Value, Refused}

@@ -134,7 +134,7 @@ pub fn cel(kc: f64, p: f64, a: f64, b: f64) -> Integral
 {
     if all_finite(kc, p, a, b) {
         if 0.0 < p {
-            return Integral::Value(bulirsch::cel_of(kc, p, a, b));
+            return Integral::Value(special_bulirsch::cel_of(kc, p, a, b));
         }
     }
     Integral::Refused(Refusal::OutsideDomain)
@@ -158,7 +158,8 @@ fn off_axis(radius: f64, rho: f64, s: f64, d: f64) -> f64
 {
     let kc = roots::root(d / s); // √(1 - m), without the subtraction near the wire
     let w = roots::root(s);
-    -2.0 / (doubles::PI * (s * w)) * bulirsch::cel_of(kc, kc * kc, rho + radius, rho - radius)
+    -2.0 / (doubles::PI * (s * w))
+        * special_bulirsch::cel_of(kc, kc * kc, rho + radius, rho - radius)
 }
 
 // The derivative by ρ.

@@ -41,7 +41,7 @@ fn start_of(b: u64) -> u64
 {
     let i = (b >> 44) & 0x1ff;
     let u = 0xffff_ffff - ((b >> 12) & 0xffff_ffff);
-    let p = starts::parabola(i);
+    let p = roots_starts::parabola(i);
     let v = p.0;
     let rise = ((v & 0xff_ffff) * u) >> 32;
     let bend = ((wide(p.1) & 0xffff) * ((u * u) >> 32)) >> 32;

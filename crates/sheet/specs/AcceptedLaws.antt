@@ -17,23 +17,23 @@ use Rattle.refusals.specs.Causes.{firstOf}
 use Rattle.refusals.specs.declared.Refusal.the-variants.{WrongVolume, WrongRow}
 use Rattle.refusals.specs.declared.Cause.the-variants.{None}
 use Rattle.refusals.proofs.Causes.{both, holds, each, from-each}
-use Rattle.orders.specs.Edges.{Faces}
-use Rattle.orders.specs.Order.{orderList}
-use Rattle.orders.specs.Mates.{mates}
+use Rattle.mesh_orders.specs.Edges.{Faces}
+use Rattle.mesh_orders.specs.Order.{orderList}
+use Rattle.mesh_orders.specs.Mates.{mates}
 use Rattle.mesh.specs.Surface.{vertex, normal, isZero}
 use Rattle.mesh.specs.Check as mesh
 use Rattle.mesh.specs.Check.{facesCause}
 use Rattle.mesh.specs.Accepted.{Counted, Closed}
 use Rattle.mesh.specs.CauseLaws.{body, none-degenerate, none-inverted}
 use Rattle.mesh_laws.specs.Laws.{closed-pairs}
-use Rattle.layout.specs.LittleEndian.{pack, unpack, bits, doubles, IsBytes}
-use Rattle.layout.specs.Parts.{Part, joined}
-use Rattle.layout.proofs.Bits.{bits-doubles}
-use Rattle.layout.proofs.Lists.{unpack-lt, pack-unpack}
-use Rattle.layout.proofs.Files.{joined-split}
-use Rattle.rows.specs.Kinds.{meshKind, prismKind, isMesh, rowWidth}
-use Rattle.rows.specs.Row.{rowNumbers}
-use Rattle.rows.specs.declared.Row.{Row}
+use Rattle.sheet_layout.specs.LittleEndian.{pack, unpack, bits, doubles, IsBytes}
+use Rattle.sheet_layout.specs.Parts.{Part, joined}
+use Rattle.sheet_layout.proofs.Bits.{bits-doubles}
+use Rattle.sheet_layout.proofs.Lists.{unpack-lt, pack-unpack}
+use Rattle.sheet_layout.proofs.Files.{joined-split}
+use Rattle.sheet_rows.specs.Kinds.{meshKind, prismKind, isMesh, rowWidth}
+use Rattle.sheet_rows.specs.Row.{rowNumbers}
+use Rattle.sheet_rows.specs.declared.Row.{Row}
 use Rattle.newtonian.specs.Vectors.{vectorNumbers}
 use Rattle.sheet.specs.Input.{SheetInput, vertexCount, faceCount, stationCount, rowAt}
 use Rattle.sheet.specs.Bytes.{pointer, volume, sheetLength, numbersOf, rows, parts, sheetBytes}

@@ -5,15 +5,15 @@ use Prim.Native.Nat.{ℕ, zero, suc, _+_, _*_}
 use lib.Ieee.{Float}
 use Rattle.refusals.specs.Answer.{Answer, value, refused}
 use Rattle.newtonian.specs.Vectors.{vectorNumbers}
-use Rattle.orders.specs.Order.{orderList}
-use Rattle.orders.specs.Mates.{mates}
+use Rattle.mesh_orders.specs.Order.{orderList}
+use Rattle.mesh_orders.specs.Mates.{mates}
 use Rattle.mesh.specs.Surface as surface
 use Rattle.prism.specs.Prism.{prismVolume}
-use Rattle.layout.specs.LittleEndian.{bits}
-use Rattle.layout.specs.Parts.{Part, joined}
-use Rattle.rows.specs.Kinds.{isMesh, rowWidth}
-use Rattle.rows.specs.Row.{rowNumbers}
-use Rattle.rows.specs.declared.Row.{Row}
+use Rattle.sheet_layout.specs.LittleEndian.{bits}
+use Rattle.sheet_layout.specs.Parts.{Part, joined}
+use Rattle.sheet_rows.specs.Kinds.{isMesh, rowWidth}
+use Rattle.sheet_rows.specs.Row.{rowNumbers}
+use Rattle.sheet_rows.specs.declared.Row.{Row}
 use Rattle.sheet.specs.Input.{SheetInput, vertexCount, faceCount, stationCount, rowAt}
 
 -- ---- the volume

@@ -9,12 +9,12 @@ use Rattle.refusals.specs.Causes.{orElse, unless, firstOf}
 use Rattle.refusals.specs.declared.Refusal.the-variants.{WrongLength, WrongOrder, WrongMate, WrongVolume, WrongRow}
 use Rattle.refusals.specs.declared.Cause.{Cause}
 use Rattle.refusals.specs.declared.Cause.the-variants.{None, Refused}
-use Rattle.orders.specs.Edges.{edge, reverse}
+use Rattle.mesh_orders.specs.Edges.{edge, reverse}
 use Rattle.newtonian.specs.declared.Vector.{Vector}
 use Rattle.mesh.specs.Surface.{vertex}
 use Rattle.mesh.specs.Check as mesh
-use Rattle.layout.specs.LittleEndian.{number, unpack, bits, doubles}
-use Rattle.rows.specs.Kinds.{isMesh, rowWidth}
+use Rattle.sheet_layout.specs.LittleEndian.{number, unpack, bits, doubles}
+use Rattle.sheet_rows.specs.Kinds.{isMesh, rowWidth}
 use Rattle.sheet.specs.Input.{SheetInput, stationCount, rowAt}
 use Rattle.sheet.specs.Bytes.{trailerLength, pointerOf, volume, numbersOf}
 use Rattle.sheet.specs.Writer.{malformed, tooMany, outOfLimits, noSuchVertex, tooThin, stationCause}

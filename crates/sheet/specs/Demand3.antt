@@ -9,9 +9,9 @@ use lib.ListN.{length, take, drop}
 use Rattle.refusals.specs.declared.Cause.{Cause}
 use Rattle.refusals.specs.declared.Cause.the-variants.{None, Refused}
 use Rattle.mesh.specs.Surface.{vertex}
-use Rattle.layout.specs.LittleEndian.{number, unpack, doubles, IsBytes}
-use Rattle.layout.proofs.Numbers.{number-part}
-use Rattle.layout.proofs.Lists.{unpack-part}
+use Rattle.sheet_layout.specs.LittleEndian.{number, unpack, doubles, IsBytes}
+use Rattle.sheet_layout.proofs.Numbers.{number-part}
+use Rattle.sheet_layout.proofs.Lists.{unpack-part}
 use Rattle.sheet.specs.declared.Verdict.the-variants.{Accepted}
 use Rattle.sheet.specs.Input.{SheetInput}
 use Rattle.sheet.specs.Bytes.{sheetLength, sheetBytes}

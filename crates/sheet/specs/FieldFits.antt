@@ -20,26 +20,26 @@ use Rattle.newtonian.specs.declared.Newtonian.{Newtonian}
 use Rattle.newtonian.specs.Fold.{Fold}
 use Rattle.newtonian.specs.Vectors.{addFields, zeroField}
 use Rattle.legendre.specs.GaussLegendre.{node, weight}
-use Rattle.corner_sums.specs.CornerSums.{addTerms, addCorner, cornerSums}
-use Rattle.cubature.specs.Cubature.{addPoint, halfWidths, offset, point, line, layer, cubature}
+use Rattle.prism_corner_sums.specs.CornerSums.{addTerms, addCorner, cornerSums}
+use Rattle.prism_cubature.specs.Cubature.{addPoint, halfWidths, offset, point, line, layer, cubature}
 use Rattle.mesh.specs.Surface.{faceCount, vertex}
-use Rattle.neumaier.specs.Neumaier.{total, totalVector, totals}
-use Rattle.tetrahedra.specs.Tetrahedra.{tetrahedra}
-use Rattle.on_edge.specs.OnEdge.{edgeLimit}
-use Rattle.edge_terms.specs.EdgeTerms.{logarithm, addFaceTerms, addEdgeTerms}
-use Rattle.edge_terms.specs.declared.Corner.{Corner}
-use Rattle.edge_terms.specs.declared.Side.{Side}
-use Rattle.edge_face_sums.specs.declared.Triangle.{Triangle}
-use Rattle.edge_face_sums.specs.EdgeFaceSums.{Sums, noSums, triangleOf, addSide, addTriangle, sumsOf, fieldOf, edgeFaceSums}
-use Rattle.centroid.specs.Centroid.{centroid, radius}
+use Rattle.polyhedron_neumaier.specs.Neumaier.{total, totalVector, totals}
+use Rattle.polyhedron_tetrahedra.specs.Tetrahedra.{tetrahedra}
+use Rattle.polyhedron_on_edge.specs.OnEdge.{edgeLimit}
+use Rattle.polyhedron_edge_terms.specs.EdgeTerms.{logarithm, addFaceTerms, addEdgeTerms}
+use Rattle.polyhedron_edge_terms.specs.declared.Corner.{Corner}
+use Rattle.polyhedron_edge_terms.specs.declared.Side.{Side}
+use Rattle.polyhedron_edge_face_sums.specs.declared.Triangle.{Triangle}
+use Rattle.polyhedron_edge_face_sums.specs.EdgeFaceSums.{Sums, noSums, triangleOf, addSide, addTriangle, sumsOf, fieldOf, edgeFaceSums}
+use Rattle.polyhedron_centroid.specs.Centroid.{centroid, radius}
 use Rattle.polyhedron.specs.Polyhedron.{isFar, polyhedronFrom, polyhedronAt}
-use Rattle.rows.specs.Kinds.{isMesh, axisRule}
-use Rattle.rows.specs.Row.{fieldAt}
-use Rattle.bisection.specs.declared.AxisRule.{AxisRule}
-use Rattle.bisection.specs.declared.Piece.{Piece}
-use Rattle.bisection.specs.declared.Piece.the-variants.{Whole, Halves}
-use Rattle.bisection.specs.declared.Axis.{Axis}
-use Rattle.bisection.specs.Bisection.{distance, order, affordable, longest, shortest, along, with, farthest, tooRough, bisected, near, outside, pieceOf}
+use Rattle.sheet_rows.specs.Kinds.{isMesh, axisRule}
+use Rattle.sheet_rows.specs.Row.{fieldAt}
+use Rattle.prism_pieces.specs.declared.AxisRule.{AxisRule}
+use Rattle.prism_pieces.specs.declared.Piece.{Piece}
+use Rattle.prism_pieces.specs.declared.Piece.the-variants.{Whole, Halves}
+use Rattle.prism_pieces.specs.declared.Axis.{Axis}
+use Rattle.prism_pieces.specs.Bisection.{distance, order, affordable, longest, shortest, along, with, farthest, tooRough, bisected, near, outside, pieceOf}
 use Rattle.prism.specs.Prism.{join, fieldOr, pieces, maxBisections, prismAt}
 
 pub record FieldFits (g : Newtonian) : Type 0 where

@@ -6,8 +6,8 @@ use lib.ListN.{length}
 use Rattle.refusals.specs.Answer.{Answer}
 use Rattle.newtonian.specs.declared.Vector.{Vector}
 use Rattle.mesh.specs.Surface as surface
-use Rattle.rows.specs.Row as row
-use Rattle.rows.specs.declared.Row.{Row}
+use Rattle.sheet_rows.specs.Row as row
+use Rattle.sheet_rows.specs.declared.Row.{Row}
 
 -- three coordinates to a vertex and to a station, three vertex numbers to a face
 pub record SheetInput : Type 0 where

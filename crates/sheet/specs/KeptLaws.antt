@@ -24,10 +24,10 @@ use Rattle.newtonian.specs.Vectors.{vectorNumbers}
 use Rattle.newtonian.specs.declared.Vector.{Vector}
 use Rattle.newtonian.specs.declared.Newtonian.{Newtonian}
 use Rattle.newtonian.specs.Fold.{Fold}
-use Rattle.orders.specs.Edges.{Faces}
-use Rattle.orders.specs.Order.{orderList}
-use Rattle.orders.specs.OrderLaws as order
-use Rattle.orders.specs.Mates.{mates}
+use Rattle.mesh_orders.specs.Edges.{Faces}
+use Rattle.mesh_orders.specs.Order.{orderList}
+use Rattle.mesh_orders.specs.OrderLaws as order
+use Rattle.mesh_orders.specs.Mates.{mates}
 use Rattle.mesh.specs.Surface as surface
 use Rattle.mesh.specs.Accepted.{Counted, Closed}
 use Rattle.mesh.specs.CauseLaws.{body, degenerate-none, inverted-none}
@@ -35,15 +35,15 @@ use Rattle.mesh_laws.specs.Laws.{pairs-closed}
 use Rattle.prism.specs.Prism.{sidesWithinLimits, sideWithinLimits, prismVolume}
 use Rattle.anomaly.specs.Body.{bodyOf}
 use Rattle.anomaly.specs.TotalField.{totalFieldOf}
-use Rattle.layout.specs.LittleEndian.{number, pack, unpack, bits, doubles, IsBytes, IsDoubles}
-use Rattle.layout.specs.Parts.{Part, Run, joined, layout, size, split, EachFits}
-use Rattle.layout.proofs.Bits.{bits-lt, doubles-bits}
-use Rattle.layout.proofs.Lists.{unpack-at, pack-unpack}
-use Rattle.layout.proofs.Files.{joined-length, joined-are, split-joined}
-use Rattle.rows.specs.Kinds.{meshKind, prismKind, isMesh, rowWidth}
-use Rattle.rows.specs.Row.{inRow, fieldAt, rowFrom, rowNumbers}
-use Rattle.rows.specs.Row as row
-use Rattle.rows.specs.declared.Row.{Row}
+use Rattle.sheet_layout.specs.LittleEndian.{number, pack, unpack, bits, doubles, IsBytes, IsDoubles}
+use Rattle.sheet_layout.specs.Parts.{Part, Run, joined, layout, size, split, EachFits}
+use Rattle.sheet_layout.proofs.Bits.{bits-lt, doubles-bits}
+use Rattle.sheet_layout.proofs.Lists.{unpack-at, pack-unpack}
+use Rattle.sheet_layout.proofs.Files.{joined-length, joined-are, split-joined}
+use Rattle.sheet_rows.specs.Kinds.{meshKind, prismKind, isMesh, rowWidth}
+use Rattle.sheet_rows.specs.Row.{inRow, fieldAt, rowFrom, rowNumbers}
+use Rattle.sheet_rows.specs.Row as row
+use Rattle.sheet_rows.specs.declared.Row.{Row}
 use Rattle.sheet.specs.FieldFits.{FieldFits, fieldAt-fits}
 use Rattle.sheet.specs.Input.{SheetInput, vertexCount, faceCount, stationCount, stationAt, rowAt}
 use Rattle.sheet.specs.Bytes.{trailerLength, pointer, pointerOf, volume, sheetLength, numbersOf, rows, parts, sheetBytes}

@@ -16,12 +16,12 @@ use Rattle.lists.specs.Sort.{range, Ascending}
 use Rattle.lists.proofs.Numbers.{both, below?, same?}
 use Rattle.lists.proofs.Ranges.{length-range}
 use Rattle.lists.proofs.Filling.{map-range, filled-all}
-use Rattle.orders.specs.Edges.{from, to, occurrences, edge, reverse, Faces}
-use Rattle.orders.specs.Order.{orderList}
-use Rattle.orders.specs.Mates.{mate, mates}
-use Rattle.orders.specs.EdgeLaws.{has-own, has-pair, edge-self, occurs-two, some-use, edge-one, number-has, small-to}
-use Rattle.orders.specs.OrderLaws.{order-length, order-below, place, places-apart, order-edges, ascending-edges}
-use Rattle.orders.specs.MateLaws.{mate-reverse, reverse-occurs, occurs-mate, mate-only}
+use Rattle.mesh_orders.specs.Edges.{from, to, occurrences, edge, reverse, Faces}
+use Rattle.mesh_orders.specs.Order.{orderList}
+use Rattle.mesh_orders.specs.Mates.{mate, mates}
+use Rattle.mesh_orders.specs.EdgeLaws.{has-own, has-pair, edge-self, occurs-two, some-use, edge-one, number-has, small-to}
+use Rattle.mesh_orders.specs.OrderLaws.{order-length, order-below, place, places-apart, order-edges, ascending-edges}
+use Rattle.mesh_orders.specs.MateLaws.{mate-reverse, reverse-occurs, occurs-mate, mate-only}
 use Rattle.mesh.specs.Accepted.{Closed}
 use Rattle.mesh.specs.CauseLaws.{none-each, each-none}
 use Rattle.mesh_laws.specs.Laws.{pairs-closed}

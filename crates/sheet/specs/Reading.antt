@@ -16,10 +16,10 @@ use Rattle.refusals.specs.declared.Cause.the-variants.{None}
 use Rattle.refusals.proofs.Causes.{holds}
 use Rattle.lists.proofs.Numbers.{both}
 use Rattle.newtonian.specs.declared.Vector.{Vector}
-use Rattle.layout.specs.LittleEndian.{unpack, bits}
-use Rattle.layout.specs.Parts.{Part, Run, size, split}
-use Rattle.layout.proofs.Lists.{unpack-length, unpack-append}
-use Rattle.rows.specs.Kinds.{rowWidth}
+use Rattle.sheet_layout.specs.LittleEndian.{unpack, bits}
+use Rattle.sheet_layout.specs.Parts.{Part, Run, size, split}
+use Rattle.sheet_layout.proofs.Lists.{unpack-length, unpack-append}
+use Rattle.sheet_rows.specs.Kinds.{rowWidth}
 use Rattle.sheet.specs.Input.{SheetInput, vertexCount, faceCount, stationCount, rowAt}
 use Rattle.sheet.specs.Bytes.{trailerLength, pointerOf, pointer, numbersOf, rows}
 use Rattle.sheet.specs.Checker.{kindIn, verticesIn, facesIn, stationsIn, pointerIn, pointerFor, facesStart, orderStart, matesStart, parse, orderIn, matesIn, sameNumbers, wrongLength}

@@ -12,13 +12,13 @@ use Rattle.refusals.specs.declared.Refusal.the-variants.{Malformed, TooMany, To
 use Rattle.refusals.specs.declared.Cause.{Cause}
 use Rattle.refusals.specs.declared.Cause.the-variants.{None, Refused}
 use Rattle.lists.specs.Count.{count}
-use Rattle.orders.specs.Order.{orderList}
+use Rattle.mesh_orders.specs.Order.{orderList}
 use Rattle.newtonian.specs.Vectors.{vectorWithinLimits}
 use Rattle.mesh.specs.Surface.{vertex}
 use Rattle.mesh.specs.Check as mesh
 use Rattle.prism.specs.Prism.{sidesWithinLimits}
-use Rattle.rows.specs.Kinds.{isMesh, knownKind, withinCounts}
-use Rattle.rows.specs.Row.{rowCause}
+use Rattle.sheet_rows.specs.Kinds.{isMesh, knownKind, withinCounts}
+use Rattle.sheet_rows.specs.Row.{rowCause}
 use Rattle.sheet.specs.Input.{SheetInput, vertexCount, faceCount, stationCount, rowAt}
 use Rattle.sheet.specs.Bytes.{sheetLength, sheetBytes}
 

@@ -21,7 +21,7 @@ use Rattle.refusals.proofs.Causes.{from-both, holds, passes, each, from-each}
 use Rattle.refusals.proofs.Causes as causes
 use Rattle.lists.specs.Count.{Below}
 use Rattle.lists.proofs.Numbers.{both, true≢false}
-use Rattle.orders.specs.Edges.{maxVertices, maxFaces, occurrences}
+use Rattle.mesh_orders.specs.Edges.{maxVertices, maxFaces, occurrences}
 use Rattle.newtonian.specs.declared.Vector.{Vector}
 use Rattle.newtonian.specs.Vectors.{vectorWithinLimits}
 use Rattle.mesh.specs.Surface.{Body, vertex, normal, isZero}
@@ -31,10 +31,10 @@ use Rattle.mesh.specs.Accepted.{Counted}
 use Rattle.mesh.specs.CauseLaws.{body, none-limits, limits-none, none-vertex, vertex-none}
 use Rattle.mesh_laws.specs.Laws.{closed-pairs, pairs-closed, checked, checks}
 use Rattle.prism.specs.Prism.{sidesWithinLimits, sideWithinLimits}
-use Rattle.rows.specs.Kinds.{meshKind, prismKind, isMesh, maxStations, knownKind, withinCounts}
-use Rattle.rows.proofs.Counts.{counts-each}
-use Rattle.rows.specs.Row.{allFinite, isFiniteRow, rowNumbers, rowCause}
-use Rattle.rows.specs.declared.Row.{Row}
+use Rattle.sheet_rows.specs.Kinds.{meshKind, prismKind, isMesh, maxStations, knownKind, withinCounts}
+use Rattle.sheet_rows.proofs.Counts.{counts-each}
+use Rattle.sheet_rows.specs.Row.{allFinite, isFiniteRow, rowNumbers, rowCause}
+use Rattle.sheet_rows.specs.declared.Row.{Row}
 use Rattle.sheet.specs.Input.{SheetInput, vertexCount, faceCount, stationCount, rowAt}
 use Rattle.sheet.specs.Bytes.{sheetLength, volume}
 use Rattle.sheet.specs.Writer.{malformed, tooMany, tooShort, outOfLimits, noSuchVertex, tooThin, bodyCause, stationCause, writerCause}

@@ -6,9 +6,9 @@ use Rattle.doubles.specs.Constants.{0·0}
 use Rattle.refusals.specs.declared.Refusal.the-variants.{OutsideDomain}
 use Rattle.carlson.specs.declared.Integral.{Integral}
 use Rattle.carlson.specs.declared.Integral.the-variants.{Refused}
-use Rattle.rf_rd.specs.Rf.{rf}
-use Rattle.rf_rd.specs.Rd.{rd}
-use Rattle.rj.specs.Rj.{rj}
+use Rattle.special_rf_rd.specs.Rf.{rf}
+use Rattle.special_rf_rd.specs.Rd.{rd}
+use Rattle.special_rj.specs.Rj.{rj}
 
 unfoldable pub finiteNotBelowZero : Float → Bool
 finiteNotBelowZero x = finite x && le 0·0 x

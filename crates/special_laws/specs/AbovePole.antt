@@ -16,7 +16,7 @@ use Rattle.doubles.proofs.Nonneg.{nonneg-of-positive, le→cross, num-pos}
 use Rattle.doubles.proofs.Value.{round-own}
 use Rattle.doubles.proofs.Within.{positive-of-num}
 use Rattle.doubles.proofs.Signs.{above-zero}
-use Rattle.rj.specs.Rj.{p', rj, rjAbove}
+use Rattle.special_rj.specs.Rj.{p', rj, rjAbove}
 
 -- no sign: a NaN, +∞, or a number that is not negative
 abbrev pub unsigned : Float → Bool

@@ -5,8 +5,8 @@ use Prim.Native.Nat.{ℕ, zero, suc}
 use lib.Ieee.{Float}
 use Rattle.carlson.specs.Rounds.{rounds}
 use Rattle.carlson.specs.RoundLaws.{stop, none-left, one-more}
-use Rattle.bulirsch.specs.declared.Bulirsch.{Bulirsch}
-use Rattle.bulirsch.specs.Bulirsch.{firstHalf, secondHalf, turn, celTest, firstBulirsch, celEnd, celOf}
+use Rattle.special_bulirsch.specs.declared.Bulirsch.{Bulirsch}
+use Rattle.special_bulirsch.specs.Bulirsch.{firstHalf, secondHalf, turn, celTest, firstBulirsch, celEnd, celOf}
 
 -- for _ in 0..n { first half; if the test fails { break }; second half }
 pub written : ℕ → Bulirsch → Bulirsch

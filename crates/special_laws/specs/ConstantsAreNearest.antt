@@ -9,7 +9,7 @@ use lib.IntN.{negsuc}
 use lib.Ieee.{fin, round, ofBits}
 use Rattle.doubles.specs.ConstantsAreNearest.{_over_}
 use Rattle.carlson.specs.Constants.{[3ε]^-⅛, 22·0, 159·0, 208·0}
-use Rattle.rf_rd.specs.Constants.{[3ε]^-⅙, [ε/4]^-⅙, 14·0, 26·0, 44·0, 52·0, 88·0}
+use Rattle.special_rf_rd.specs.Constants.{[3ε]^-⅙, [ε/4]^-⅙, 14·0, 26·0, 44·0, 52·0, 88·0}
 use Rattle.rings.specs.Constants.{9·10⁻⁸, 16·0, 72·0}
 
 pub constants-are-nearest :

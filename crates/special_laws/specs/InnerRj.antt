@@ -17,7 +17,7 @@ use Rattle.doubles.specs.Constants.{0·0}
 use Rattle.doubles.specs.Magnitude.{max, min}
 use Rattle.doubles.proofs.Nonneg.{nonneg-of-positive, cross→le}
 use Rattle.doubles.proofs.Signs.{zero-equals, true→T, false→T}
-use Rattle.rj.specs.Rj.{least, middle, greatest}
+use Rattle.special_rj.specs.Rj.{least, middle, greatest}
 use Rattle.special.specs.Domain.{finiteNotBelowZero, moreThanOneZero, inDomain}
 use Rattle.special_laws.specs.AbovePole.{unsigned, sub-unsigned, add-unsigned, Inner, p'-above, inner-of}
 

@@ -15,7 +15,7 @@ use Rattle.carlson.specs.Rc.{duplicate, duplications, series, rcAbove, rc, rcOr
 use Rattle.carlson.specs.Logarithm.{lnAt, lnBy, ln}
 use Rattle.carlson.specs.Arctangent.{atanWithin, atanBy, atan}
 use Rattle.rings.specs.Elliptic.{nextMean, meanTest, elliptic}
-use Rattle.bulirsch.specs.Bulirsch.{firstHalf, secondHalf, turn, celTest, celEnd, celOf}
+use Rattle.special_bulirsch.specs.Bulirsch.{firstHalf, secondHalf, turn, celTest, celEnd, celOf}
 use Rattle.special_laws.specs.RoundsTaken.{rcRounds, atanRounds}
 
 pub rc-is-π : rc 0·0 (fin false 1 (negsuc 1)) ≡ Value π

@@ -16,9 +16,9 @@ use Rattle.refusals.specs.declared.Cause.{Cause}
 use Rattle.refusals.specs.declared.Cause.the-variants.{None, Refused}
 use Rattle.mesh.specs.Surface.{faceCount, volume}
 use Rattle.mesh.specs.Check.{inLimits, outOfLimits, namesVertex, noSuchVertex, occursOnce, flippedAt, flippedEdge, reverseOccurs, openAt, openEdge, hasNormal, degenerateFace, inverted, orderCause, leavesWork}
-use Rattle.rows.specs.Row.{isFiniteRow, rowCause}
-use Rattle.rows.specs.declared.Row.{Row}
-use Rattle.rows.specs.RowRefusals.{rowAt-refused}
+use Rattle.sheet_rows.specs.Row.{isFiniteRow, rowCause}
+use Rattle.sheet_rows.specs.declared.Row.{Row}
+use Rattle.sheet_rows.specs.RowRefusals.{rowAt-refused}
 use Rattle.sheet.specs.Input.{SheetInput, stationAt, stationCount, rowAt}
 use Rattle.sheet.specs.Writer.{zeroesOut, stationCause}
 

@@ -14,9 +14,9 @@ use Rattle.refusals.specs.declared.Refusal.the-variants.{Malformed, TooMany, To
 use Rattle.refusals.specs.declared.Cause.{Cause}
 use Rattle.refusals.specs.declared.Cause.the-variants.{None, Refused}
 use Rattle.refusals.proofs.Causes.{both}
-use Rattle.orders.specs.Edges.{maxVertices, maxFaces}
-use Rattle.orders.specs.Order.{orderList}
-use Rattle.orders.specs.OrderLaws.{order-length}
+use Rattle.mesh_orders.specs.Edges.{maxVertices, maxFaces}
+use Rattle.mesh_orders.specs.Order.{orderList}
+use Rattle.mesh_orders.specs.OrderLaws.{order-length}
 use Rattle.newtonian.specs.Vectors.{vectorWithinLimits}
 use Rattle.mesh.specs.Surface.{vertex}
 use Rattle.mesh.specs.Check.{orderCause, leavesWork, workAfter}
@@ -25,16 +25,16 @@ use Rattle.mesh.specs.Accepted.{Counted}
 use Rattle.mesh_laws.specs.Laws.{mesh-volume, mesh-refused}
 use Rattle.mesh.specs.declared.Mesh.{Mesh}
 use Rattle.prism.specs.Prism.{sidesWithinLimits}
-use Rattle.rows.specs.Kinds.{isMesh, maxStations, withinCounts}
+use Rattle.sheet_rows.specs.Kinds.{isMesh, maxStations, withinCounts}
 use Rattle.sheet.specs.Input.{SheetInput, vertexCount, faceCount, stationCount}
 use Rattle.sheet.specs.Bytes.{volume, sheetLength, sheetBytes}
 use Rattle.sheet.specs.Writer.{malformed, tooMany, tooShort, outOfLimits, noSuchVertex, tooThin, bodyCause, stationCause, writerCause, zeroesOut, outAfter}
 use Rattle.sheet.specs.Promises.{Typed, Kept}
 use Rattle.sheet.specs.WriterLaws.{none-malformed, none-many, none-short, not-mesh, body-of, no-cause, cause-none}
 use Rattle.sheet.specs.Demand3.{kept, sheet-length}
-use Rattle.input_causes.specs.CountCause.{wellFormed, countCause}
-use Rattle.body_causes.specs.BodyChecked.{checkBodyCause, BodyChecked}
-use Rattle.put_sheet.specs.Put.{sheetOrZeros, SheetPut, Prepared}
+use Rattle.writer_input_causes.specs.CountCause.{wellFormed, countCause}
+use Rattle.writer_body_causes.specs.BodyChecked.{checkBodyCause, BodyChecked}
+use Rattle.writer_put_sheet.specs.Put.{sheetOrZeros, SheetPut, Prepared}
 use Rattle.writer.specs.declared.Written.{Written}
 use Rattle.writer.specs.declared.Written.the-variants.{Bytes}
 use Rattle.writer.specs.declared.Written as written

@@ -8,7 +8,7 @@ use Rattle.mesh.specs.Check.{workAfter}
 use Rattle.sheet.specs.Input.{SheetInput, stationCount}
 use Rattle.sheet.specs.Bytes.{sheetLength}
 use Rattle.sheet.specs.Writer.{stationCause, outAfter}
-use Rattle.body_causes.specs.BodyChecked.{checkBodyCause}
+use Rattle.writer_body_causes.specs.BodyChecked.{checkBodyCause}
 use Rattle.writer.specs.declared.Written.{Written}
 use Rattle.writer.specs.Written.{writtenOf}
 

@@ -3,17 +3,17 @@ ghost use mathlib.Core.Path.{_≡_};
 ghost use lib.ListN.{length};
 ghost use Rattle.refusals.specs.declared.Cause.the-variants.{None};
 ghost use Rattle.sheet.specs.Input.{inputOf};
-ghost use Rattle.input_causes.specs.CountCause.{countCause};
+ghost use Rattle.writer_input_causes.specs.CountCause.{countCause};
 ghost use Rattle.writer.specs.Written.{writtenOf, Writes};
 ghost use Rattle.writer.specs.Steps.{lateCause, Leaves};
-use body_causes::check_body;
-use input_causes::count_cause;
-use input_causes::number_cause;
-use input_causes::sheet_length;
 use mesh::Mesh;
 use newtonian::Vector;
 use refusals::Cause;
 use refusals::Refusal;
+use writer_body_causes::check_body;
+use writer_input_causes::count_cause;
+use writer_input_causes::number_cause;
+use writer_input_causes::sheet_length;
 
 // What `write_sheet` answers: the sheet's length, or the refusal.
 pub enum Written {
@@ -49,7 +49,7 @@ fn write_counted(
         Mesh::Volume(volume) => {
             let n = faces.len();
             let size = sheet_length(kind, verts.len() / 3, faces.len() / 3, stations.len() / 3);
-            let cause = put_sheet::put_sheet(
+            let cause = writer_put_sheet::put_sheet(
                 kind,
                 verts,
                 faces,

@@ -5,8 +5,8 @@ use borrow.Author.Needs.{needs}
 use Rattle.refusals.specs.declared.Cause.the-variants.{None}
 use Rattle.sheet.specs.Writer.{outOfLimits}
 use Rattle.sheet.specs.Checker.{parse}
-use Rattle.body_checks.specs.Stages.{bodyCause, listsCause}
-use Rattle.body_checks.proofs.Known.{vertices-loaded}
+use Rattle.checker_body.specs.Stages.{bodyCause, listsCause}
+use Rattle.checker_body.proofs.Known.{vertices-loaded}
 use Rattle.checker.proofs.body_cause.Statement.{statement}
 use Rattle.checker.proofs.body_cause.Tie as tie
 

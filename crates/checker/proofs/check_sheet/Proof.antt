@@ -5,7 +5,7 @@ use borrow.Author.Needs.{needs}
 use Rattle.sheet.specs.declared.Verdict.the-variants.{Accepted}
 use Rattle.sheet.specs.Checker.{verdict}
 use Rattle.sheet.specs.Demand3.{accepted-right}
-use Rattle.readers.proofs.Opening.{opened}
+use Rattle.sheet_readers.proofs.Opening.{opened}
 use Rattle.checker.proofs.Staged.{opening-none, refusing, accepting}
 use Rattle.checker.proofs.check_sheet.Statement.{statement}
 use Rattle.checker.proofs.check_sheet.Tie as tie

@@ -2,7 +2,7 @@
 use mathlib.Core.Path.{sym, _∙_}
 use denote.Ref.{now}
 use borrow.Author.Needs.{needs}
-use Rattle.readers.proofs.Opening.{opened}
+use Rattle.sheet_readers.proofs.Opening.{opened}
 use Rattle.checker.proofs.Staged.{staged}
 use Rattle.checker.proofs.checker_cause.Statement.{statement}
 use Rattle.checker.proofs.checker_cause.Tie as tie

@@ -6,10 +6,10 @@ use lib.ListN.{length}
 use lib.Seq.{length-take-le}
 use denote.Ref.{now}
 use borrow.Author.Needs.{needs}
-use Rattle.layout.proofs.Lists.{unpack-length}
+use Rattle.sheet_layout.proofs.Lists.{unpack-length}
 use Rattle.sheet.specs.Checker.{facesIn}
-use Rattle.body_checks.specs.Stages.{Ready}
-use Rattle.body_checks.proofs.Known.{now-ready, order-length, in-order, mated}
+use Rattle.checker_body.specs.Stages.{Ready}
+use Rattle.checker_body.proofs.Known.{now-ready, order-length, in-order, mated}
 use Rattle.checker.proofs.loaded_cause.Statement.{statement}
 use Rattle.checker.proofs.loaded_cause.Tie as tie
 

@@ -3,7 +3,7 @@ use mathlib.Core.Path.{sym, ap, _∙_}
 use denote.Ref.{now}
 use lib.ListN.{length}
 use borrow.Author.Needs.{needs}
-use Rattle.orders.specs.OrderLaws.{order-length}
+use Rattle.mesh_orders.specs.OrderLaws.{order-length}
 use Rattle.polyhedron.proofs.Answers.{not-given, counted, not-accepted, Success, success}
 use Rattle.polyhedron.proofs.polyhedron.Statement.{statement}
 use Rattle.polyhedron.proofs.polyhedron.Tie as tie

@@ -10,7 +10,7 @@ use Rattle.prism.proofs.pieces.Reads as pieces
 use Rattle.prism.proofs.pieces.Kinds as pieces-kinds
 use Rattle.prism.proofs.+pieces.Lts-pieces as pieces-lts
 use Rattle.prism.proofs.join.Reads as join-reads
-use Rattle.bisection.proofs.piece_of.Reads as piece-of-reads
+use Rattle.prism_pieces.proofs.piece_of.Reads as piece-of-reads
 use Rattle.prism.proofs.+pieces.{statement}
 use Rattle.prism.proofs.+pieces.Tie.{close}
 

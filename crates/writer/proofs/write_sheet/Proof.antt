@@ -10,7 +10,7 @@ use Rattle.refusals.specs.declared.Cause.the-variants.{None, Refused}
 use Rattle.sheet.specs.Input.{SheetInput, inputOf}
 use Rattle.sheet.specs.Writer.{outOfLimits}
 use Rattle.sheet.specs.Promises.{Typed}
-use Rattle.input_causes.specs.CountCause.{countCause}
+use Rattle.writer_input_causes.specs.CountCause.{countCause}
 use Rattle.writer.proofs.Stages.{by-counts, by-limits, later}
 use Rattle.writer.proofs.write_sheet.Statement.{statement}
 use Rattle.writer.proofs.write_sheet.Tie as tie

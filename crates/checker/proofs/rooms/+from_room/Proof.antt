@@ -13,7 +13,7 @@ use borrow.Fn.Kinds.{In}
 use borrow.Fn.PlainCycle.{Measures, is, falls, and}
 use Rattle.lists.proofs.Numbers.{below?, both-within, not-both-within}
 use Rattle.sheet.specs.Checker.{verticesIn, facesIn}
-use Rattle.readers.specs.Opened.{Opened}
+use Rattle.sheet_readers.specs.Opened.{Opened}
 use Rattle.checker.proofs.rooms.from_room.Reads as from-room
 use Rattle.checker.proofs.rooms.from_room.Kinds as from-room-kinds
 use Rattle.checker.proofs.rooms.+from_room.Lts-from_room as from-room-lts

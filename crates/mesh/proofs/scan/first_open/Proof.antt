@@ -9,8 +9,8 @@ use borrow.Author.Tests.{not-true, not-false}
 use Rattle.refusals.specs.declared.Refusal.the-variants.{Open}
 use Rattle.refusals.specs.declared.Cause.the-variants.{None, Refused}
 use Rattle.refusals.specs.Causes.{unless, firstOf}
-use Rattle.orders.specs.Order.{Uses}
-use Rattle.orders.specs.OrderLaws.{order-length, order-uses}
+use Rattle.mesh_orders.specs.Order.{Uses}
+use Rattle.mesh_orders.specs.OrderLaws.{order-length, order-uses}
 use Rattle.mesh.specs.Check.{reverseOccurs, openAt, openEdge}
 use Rattle.mesh.proofs.Scans.{scan-start, scan-more, scan-stop, scan-end}
 use Rattle.mesh.proofs.scan.first_open.Statement.{statement}

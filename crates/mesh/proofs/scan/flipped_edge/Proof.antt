@@ -10,9 +10,9 @@ use borrow.Author.Tests.{lt-leb}
 use Rattle.refusals.specs.declared.Refusal.the-variants.{Flipped}
 use Rattle.refusals.specs.declared.Cause.the-variants.{Refused}
 use Rattle.lists.proofs.Numbers.{same?}
-use Rattle.orders.specs.Edges.{from, to, edge}
-use Rattle.orders.specs.Order.{orderList, Uses}
-use Rattle.orders.specs.OrderLaws.{order-length, order-uses}
+use Rattle.mesh_orders.specs.Edges.{from, to, edge}
+use Rattle.mesh_orders.specs.Order.{orderList, Uses}
+use Rattle.mesh_orders.specs.OrderLaws.{order-length, order-uses}
 use Rattle.mesh.specs.Check.{occursOnce, flippedAt, flippedEdge}
 use Rattle.mesh.proofs.Scans.{scan-stop}
 use Rattle.mesh.proofs.Flips.{differ-none, same-twice}

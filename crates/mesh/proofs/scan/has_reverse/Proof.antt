@@ -6,8 +6,8 @@ use denote.Ref.{now}
 use borrow.Author.Needs.{needs}
 use borrow.Author.Tests.{le-leb, lt-leb}
 use Rattle.lists.proofs.Numbers.{below?}
-use Rattle.orders.specs.Edges.{from, to, occurrences}
-use Rattle.orders.specs.MateLaws.{reverse-occurs, mate-occurs, occurs-mate}
+use Rattle.mesh_orders.specs.Edges.{from, to, occurrences}
+use Rattle.mesh_orders.specs.MateLaws.{reverse-occurs, mate-occurs, occurs-mate}
 use Rattle.mesh.proofs.scan.has_reverse.Statement.{statement}
 use Rattle.mesh.proofs.scan.has_reverse.Tie as tie
 

@@ -5,9 +5,9 @@ use lib.ListN.{length}
 use denote.Ref.{now}
 use borrow.Author.Needs.{needs}
 use Rattle.lists.proofs.Counting.{placed-below}
-use Rattle.orders.specs.Endpoint.{endpoint}
-use Rattle.orders.specs.Order.{Uses}
-use Rattle.orders.specs.OrderLaws.{order-length, order-uses}
+use Rattle.mesh_orders.specs.Endpoint.{endpoint}
+use Rattle.mesh_orders.specs.Order.{Uses}
+use Rattle.mesh_orders.specs.OrderLaws.{order-length, order-uses}
 use Rattle.mesh.proofs.scan.open_edge.Statement.{statement}
 use Rattle.mesh.proofs.scan.open_edge.Tie as tie
 

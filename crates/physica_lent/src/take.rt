@@ -1,0 +1,58 @@
+// Vectors and matrices from lent numbers, and a row's numbers from lent bytes.
+ghost use mathlib.Core.Path.{_≡_};
+ghost use Prim.Native.Nat.{_≤_};
+ghost use lib.ListN.{length};
+ghost use Rattle.sheet_layout.specs.LittleEndian.{unpack, doubles};
+ghost use Rattle.physica_lent.specs.Exported.{vectorOf, hessianOf};
+use newtonian::Hessian;
+use newtonian::Vector;
+use sheet_layout::f64_at;
+
+pub fn vector_of(v: &[f64; 3]) -> Vector
+    ensures { λ r. ⌜ r ≡ vectorOf (now (v .entry)) ⌝ }
+{
+    Vector {
+        x: v[0],
+        y: v[1],
+        z: v[2],
+    }
+}
+
+// Row by row.
+pub fn hessian_of(t: &[f64; 9]) -> Hessian
+    ensures { λ r. ⌜ r ≡ hessianOf (now (t .entry)) ⌝ }
+{
+    Hessian {
+        x: Vector {
+            x: t[0],
+            y: t[1],
+            z: t[2],
+        },
+        y: Vector {
+            x: t[3],
+            y: t[4],
+            z: t[5],
+        },
+        z: Vector {
+            x: t[6],
+            y: t[7],
+            z: t[8],
+        },
+    }
+}
+
+// The numbers of a row of a sheet.
+pub fn row_numbers(row: &[u8]) -> [f64; 8]
+    requires { ⌜ 64 ≤ length (now row) ⌝ }
+    ensures { λ r. ⌜ r ≡ doubles (unpack 8 8 (now (row .entry)) 0) ⌝ }
+{
+    let v = f64_at(row, 0);
+    let gx = f64_at(row, 8);
+    let gy = f64_at(row, 16);
+    let gz = f64_at(row, 24);
+    let bx = f64_at(row, 32);
+    let by = f64_at(row, 40);
+    let bz = f64_at(row, 48);
+    let total = f64_at(row, 56);
+    [v, gx, gy, gz, bx, by, bz, total]
+}

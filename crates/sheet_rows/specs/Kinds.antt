@@ -1,0 +1,44 @@
+-- The kinds of a sheet as document 01 has them, what each decides of a row, and the limits on a sheet's counts. Definitions only.
+use mathlib.Core.Bool.{Bool, _&&_, _||_}
+use Prim.Native.Nat.{ℕ}
+use lib.Dec.{eqb, leb}
+use lib.Ieee.{Float}
+use Rattle.mesh_orders.specs.Edges.{maxVertices, maxFaces}
+use Rattle.prism_pieces.specs.declared.AxisRule.{AxisRule}
+use Rattle.prism_pieces.specs.declared.AxisRule.the-variants.{LastOfEquals}
+use Rattle.anomaly.specs.Body.{μ₀/4π}
+
+abbrev pub meshKind : ℕ
+meshKind = 1
+
+abbrev pub prismKind : ℕ
+prismKind = 2
+
+unfoldable pub isMesh : ℕ → Bool
+isMesh kind = eqb kind meshKind
+
+-- of v vertices and f faces: a mesh; or a prism, with two vertices, min and max, and no faces
+unfoldable pub knownKind : ℕ → ℕ → ℕ → Bool
+knownKind kind v f = eqb kind meshKind || (eqb kind prismKind && (eqb v 2 && eqb f 0))
+
+-- ---- what a kind decides
+
+-- how many numbers a row has, each of 8 bytes
+abbrev pub rowWidth : ℕ → ℕ
+rowWidth kind = 8
+
+abbrev pub axisRule : ℕ → AxisRule
+axisRule kind = LastOfEquals
+
+abbrev pub magneticConstant : ℕ → Float
+magneticConstant kind = μ₀/4π
+
+-- ---- the counts
+
+-- document 01: S ≤ 65,536
+abbrev pub maxStations : ℕ
+maxStations = 65536
+
+-- v vertices, f faces and s stations
+unfoldable pub withinCounts : ℕ → ℕ → ℕ → Bool
+withinCounts v f s = leb v maxVertices && (leb f maxFaces && leb s maxStations)

@@ -1,0 +1,164 @@
+// The row of a station.
+pub mod kinds;
+
+ghost use mathlib.Core.Path.{_≡_};
+ghost use mathlib.Core.Bool.{true};
+ghost use lib.ListN.{length};
+ghost use Rattle.newtonian.specs.Field as newtonian;
+ghost use Rattle.mesh_orders.specs.Order.{orderList};
+ghost use Rattle.mesh.specs.Surface.{Body};
+ghost use Rattle.polyhedron_edge_face_sums.specs.Logarithms.{Mated};
+ghost use Rattle.sheet_rows.specs.Kinds.{isMesh};
+ghost use Rattle.sheet_rows.specs.Row.{fieldAt, rowFrom, rowAt, rowNumbers, allFinite, isFiniteRow, rowCause, answerOf};
+ghost use Rattle.sheet_rows.specs.Known.{CenterOf, Known};
+use crate::kinds::ROW_NUMBERS;
+use newtonian::Field;
+use newtonian::Newtonian;
+use newtonian::Vector;
+use prism_pieces::AxisRule;
+use refusals::Cause;
+use refusals::Refusal;
+
+// The field, what the magnetisation adds to the ambient field, and the total field's anomaly.
+pub struct Row {
+    pub field: Newtonian,
+    pub anomaly: Vector,
+    pub total: f64,
+}
+
+// The row, or a refusal.
+pub enum RowAnswer {
+    At(Row),
+    Refused(Refusal),
+}
+
+// A mesh's centroid and radius, which are the same for every station.
+pub struct Center {
+    pub centroid: Vector,
+    pub radius: f64,
+}
+
+// Taken once for all stations. A prism has none, and gets zeros.
+pub fn center_of(kind: u32, verts: &[f64], faces: &[u32], order: &[u32]) -> Center
+    requires { ⌜ (isMesh kind ≡ true → Body (now verts) (now faces) × (now order ≡ orderList (now faces))) ⌝ }
+    ensures { λ r. ⌜ CenterOf kind r (now (verts .entry)) (now (faces .entry)) ⌝ }
+{
+    if kinds::is_mesh(kind) {
+        let c = polyhedron_centroid::centroid(verts, faces, order);
+        return Center {
+            centroid: c,
+            radius: polyhedron_centroid::radius(c, verts, faces, order),
+        };
+    }
+    Center {
+        centroid: Vector {
+            x: 0.0,
+            y: 0.0,
+            z: 0.0,
+        },
+        radius: 0.0,
+    }
+}
+
+// The field at the station p of number i.
+fn field_at(
+    kind: u32,
+    i: u32,
+    p: Vector,
+    c: Center,
+    verts: &[f64],
+    faces: &[u32],
+    mates: &[u32],
+    logs: &mut [f64],
+) -> Field
+    requires { ⌜ Known kind c (now verts) (now faces) × Mated (now faces) (now mates) (now logs) ⌝ }
+    ensures { λ r. ⌜ newtonian.answerOf r ≡ fieldAt kind i p (now (verts .entry)) (now (faces .entry)) ⌝ }
+    ensures { λ _. ⌜ length (now (logs .exit)) ≡ length (now (logs .entry)) ⌝ }
+{
+    if kinds::is_mesh(kind) {
+        return polyhedron::polyhedron_at(i, p, c.centroid, c.radius, verts, faces, mates, logs);
+    }
+    let lo = mesh::surface::vertex(verts, 0);
+    let hi = mesh::surface::vertex(verts, 1);
+    prism::prism_at(AxisRule::LastOfEquals, i, p, lo, hi)
+}
+
+fn row_from(kind: u32, magnetisation: Vector, ambient: Vector, field: Newtonian) -> Row
+    ensures { λ r. ⌜ r ≡ rowFrom kind magnetisation ambient field ⌝ }
+{
+    let hessian = field.hessian;
+    let anomaly = anomaly::body_of(anomaly::C_M, hessian, magnetisation);
+    Row {
+        field,
+        anomaly,
+        total: anomaly::total_field_of(ambient, anomaly),
+    }
+}
+
+// The row at the station p of number i. A mesh's mates, and as much room for logarithms, make it faster; both may be
+// empty.
+pub fn row_at(
+    kind: u32,
+    magnetisation: Vector,
+    ambient: Vector,
+    i: u32,
+    p: Vector,
+    c: Center,
+    verts: &[f64],
+    faces: &[u32],
+    mates: &[u32],
+    logs: &mut [f64],
+) -> RowAnswer
+    requires { ⌜ Known kind c (now verts) (now faces) × Mated (now faces) (now mates) (now logs) ⌝ }
+    ensures { λ r. ⌜ answerOf r ≡ rowAt kind magnetisation ambient i p (now (verts .entry)) (now (faces .entry)) ⌝ }
+    ensures { λ _. ⌜ length (now (logs .exit)) ≡ length (now (logs .entry)) ⌝ }
+{
+    match field_at(kind, i, p, c, verts, faces, mates, logs) {
+        Field::At(g) => RowAnswer::At(row_from(kind, magnetisation, ambient, g)),
+        Field::Refused(r) => RowAnswer::Refused(r),
+    }
+}
+
+// The numbers that the sheet holds of a row.
+pub fn row_numbers(kind: u32, row: Row) -> [f64; ROW_NUMBERS]
+    ensures { λ r. ⌜ r ≡ rowNumbers kind row ⌝ }
+{
+    let g = row.field.gradient;
+    let b = row.anomaly;
+    [row.field.potential, g.x, g.y, g.z, b.x, b.y, b.z, row.total]
+}
+
+fn all_finite(numbers: &[f64]) -> bool
+    ensures { λ r. ⌜ r ≡ allFinite (now (numbers .entry)) ⌝ }
+{
+    let mut i = 0;
+    while i < numbers.len() {
+        if !doubles::is_finite(numbers[i]) {
+            return false;
+        }
+        i += 1;
+    }
+    true
+}
+
+pub fn is_finite_row(kind: u32, row: Row) -> bool
+    ensures { λ r. ⌜ r ≡ isFiniteRow kind row ⌝ }
+{
+    let numbers = row_numbers(kind, row);
+    all_finite(&numbers)
+}
+
+// 10 or 11, then 13, of station i.
+pub fn row_cause(kind: u32, i: u32, a: RowAnswer) -> Cause
+    ensures { λ r. ⌜ r ≡ rowCause kind i (answerOf a) ⌝ }
+{
+    match a {
+        RowAnswer::Refused(r) => Cause::Refused(r),
+        RowAnswer::At(row) => {
+            if is_finite_row(kind, row) {
+                return Cause::None;
+            }
+            Cause::Refused(Refusal::NotFinite(i))
+        }
+    }
+}

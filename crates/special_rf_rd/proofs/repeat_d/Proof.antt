@@ -1,0 +1,49 @@
+-- `special_rf_rd::repeat_d` meets its contract. Assumes nothing.
+use mathlib.Core.Path.{refl}
+use Prim.Native.Nat.{_-_}
+use native.Mathlib.Omega.{arith}
+use borrow.Author.Needs.{needs}
+use Rattle.carlson.specs.CarlsonLoop.{maxRounds}
+use Rattle.carlson.proofs.RoundLoop.{After, none-yet, tested, one-round, all-made}
+use Rattle.special_rf_rd.specs.Rd.{testD, duplicateD}
+use Rattle.special_rf_rd.proofs.repeat_d.Statement.{statement}
+use Rattle.special_rf_rd.proofs.repeat_d.Tie as tie
+
+abbrev Inv-loop : tie.InvT-loop
+Inv-loop q t₀ n₀ t n = After (testD q) duplicateD maxRounds t₀ n t
+
+abbrev μ-loop : tie.MeasureT-loop
+μ-loop q t₀ n₀ t n = maxRounds - n
+
+loop-holds : tie.Need-loop-holds Inv-loop μ-loop
+loop-holds c = none-yet
+
+returns : tie.Need-returns Inv-loop μ-loop
+returns c = tested (c .before .before .before .loop .inv) (c .before .loop-test2 .ensures) (c .if1 .taken)
+
+add-n : tie.Need-add-n Inv-loop μ-loop
+add-n c = omega arith
+
+loop-less : tie.Need-loop-less Inv-loop μ-loop
+loop-less c = omega arith
+
+loop-again : tie.Need-loop-again Inv-loop μ-loop
+loop-again c = one-round (c .before .before .before .before .loop .inv) (omega arith) (c .before .before .loop-test2 .ensures) (c .before .if1 .left) (c .duplicate-d .ensures) refl
+
+returns-2 : tie.Need-returns-2 Inv-loop μ-loop
+returns-2 c = all-made (c .before .loop .inv) (omega arith)
+
+pub repeat-d-spec : {M : Type 1} → statement M
+repeat-d-spec =
+    tie.close
+    (tie.spec
+    Inv-loop
+    μ-loop
+    loop-holds
+    (λ c κs. search needs)
+    returns
+    (λ c κs. search needs)
+    add-n
+    loop-less
+    loop-again
+    returns-2)

@@ -1,0 +1,49 @@
+-- `special_rf_rd::repeat_f` meets its contract. Assumes nothing.
+use mathlib.Core.Path.{refl}
+use Prim.Native.Nat.{_-_}
+use native.Mathlib.Omega.{arith}
+use borrow.Author.Needs.{needs}
+use Rattle.carlson.specs.CarlsonLoop.{maxRounds}
+use Rattle.carlson.proofs.RoundLoop.{After, none-yet, tested, one-round, all-made}
+use Rattle.special_rf_rd.specs.Rf.{testF, duplicateF}
+use Rattle.special_rf_rd.proofs.repeat_f.Statement.{statement}
+use Rattle.special_rf_rd.proofs.repeat_f.Tie as tie
+
+abbrev Inv-loop : tie.InvT-loop
+Inv-loop q t₀ n₀ t n = After (testF q) duplicateF maxRounds t₀ n t
+
+abbrev μ-loop : tie.MeasureT-loop
+μ-loop q t₀ n₀ t n = maxRounds - n
+
+loop-holds : tie.Need-loop-holds Inv-loop μ-loop
+loop-holds c = none-yet
+
+returns : tie.Need-returns Inv-loop μ-loop
+returns c = tested (c .before .before .before .loop .inv) (c .before .loop-test2 .ensures) (c .if1 .taken)
+
+add-n : tie.Need-add-n Inv-loop μ-loop
+add-n c = omega arith
+
+loop-less : tie.Need-loop-less Inv-loop μ-loop
+loop-less c = omega arith
+
+loop-again : tie.Need-loop-again Inv-loop μ-loop
+loop-again c = one-round (c .before .before .before .before .loop .inv) (omega arith) (c .before .before .loop-test2 .ensures) (c .before .if1 .left) (c .duplicate-f .ensures) refl
+
+returns-2 : tie.Need-returns-2 Inv-loop μ-loop
+returns-2 c = all-made (c .before .loop .inv) (omega arith)
+
+pub repeat-f-spec : {M : Type 1} → statement M
+repeat-f-spec =
+    tie.close
+    (tie.spec
+    Inv-loop
+    μ-loop
+    loop-holds
+    (λ c κs. search needs)
+    returns
+    (λ c κs. search needs)
+    add-n
+    loop-less
+    loop-again
+    returns-2)

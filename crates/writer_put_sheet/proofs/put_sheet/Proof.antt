@@ -1,0 +1,56 @@
+-- `writer_put_sheet::put_sheet` meets its contract. Assumes nothing.
+use mathlib.Core.Path.{_≡_}
+use native.Mathlib.Omega.{arith}
+use lib.ListN.{length}
+use denote.Ref.{now}
+use Rattle.sheet.specs.Input.{SheetInput, inputOf}
+use Rattle.writer_put_sheet.proofs.Pieces.{put-together}
+use Rattle.writer_put_sheet.proofs.put_sheet.Statement.{statement}
+use Rattle.writer_put_sheet.proofs.put_sheet.Tie as tie
+
+abbrev input : tie.Start → SheetInput
+input c = let a = c .args in inputOf (a .kind) (now (a .verts)) (now (a .faces)) (a .magnetisation) (a .ambient) (now (a .stations))
+
+-- where the call begins
+abbrev start : tie.After-put-front → tie.Start
+start c = c .before .before .before .before .before .before .before
+
+put-rows-requires : tie.Need-put-rows-requires
+put-rows-requires c κs =
+    let h = start (c .before .before .before .before) .pre in
+    (record { body = h .body; center = c .before .center-of .ensures; corners = h .corners }, h .stations, omega arith)
+
+-- out keeps its length
+same-size : (c : tie.After-slice-known3) → length (c .before .before .put-rows .last .1 .1 .1 .1 .1 .1 .1 .0) ≡ length (now (start (c .before .before .before .before .before .before .before) .args .out))
+same-size c = omega arith
+
+returns : tie.Need-returns
+returns c =
+    let rows = c .before .before .before .before .before .before in
+    let front = rows .before .before .before .before .before in
+    let st = start front in
+    let a = st .args in
+    let put = rows .put-rows .ensures in
+    record {
+      cause = put .cause;
+      bytes = put-together (input st) (now (a .order)) (a .volume) (now (a .out)) (st .pre) (same-size (c .before .before .before .before)) (front .put-front .ensures) (rows .put-rows .result) (put .cause) (put .rows) (c .before .before .put-end .ensures);
+    }
+
+pub put-sheet-spec : {M : Type 1} → statement M
+put-sheet-spec =
+    tie.close
+    (tie.spec
+    (λ c κs. let h = c .before .before .before .before .before .before .pre in (h .faces, h .order, omega arith))
+    (λ c κs m. let h = start (c .before .before) .pre in (h .body m, h .order))
+    (λ c. omega arith)
+    (λ c. omega arith)
+    (λ c. omega arith)
+    (λ c. omega arith)
+    (λ c. omega arith)
+    put-rows-requires
+    (λ c. omega arith)
+    (λ c. omega arith)
+    (λ c. omega arith)
+    (λ c κs. omega arith)
+    (λ c. omega arith)
+    returns)
