@@ -3,7 +3,7 @@
 use std::hint::black_box;
 use std::time::Instant;
 
-#[link(name = "exports", kind = "static")]
+#[link(name = "test_exports", kind = "static")]
 unsafe extern "C" {
     fn physica_root(x: f64) -> f64;
 }

@@ -27,9 +27,18 @@ pub struct Row {
     pub total: f64,
 }
 
+/// A point's bytes, of a vertex or a station: three floats.
+const POINT_BYTES: usize = 3 * 8;
+/// A face's bytes: its corners, and the order list's entries and the mates of its three edge uses, four bytes each.
+const FACE_BYTES: usize = 3 * 3 * 4;
+/// The numbers of a row, and their bytes.
+const ROW_NUMBERS: usize = 8;
+const ROW_BYTES: usize = 8 * ROW_NUMBERS;
+const TRAILER_BYTES: usize = 80;
+
 /// The length of a sheet in bytes.
 pub fn sheet_length(vertices: usize, faces: usize, stations: usize) -> usize {
-    24 * vertices + 36 * faces + 88 * stations + 80
+    POINT_BYTES * vertices + FACE_BYTES * faces + (POINT_BYTES + ROW_BYTES) * stations + TRAILER_BYTES
 }
 
 /// The sheet of a body and of the stations' fields. Refused by 2, 3, 4, 5 to 8 or 9, then station by station 10 or 11, 13.
@@ -121,17 +130,17 @@ pub fn sheet_rows(sheet: &[u8]) -> &[u8] {
     let rows = unsafe { ffi::physica_sheet_rows(sheet.as_ptr(), sheet.len()) };
     match rows {
         0 => &[],
-        _ => &sheet[sheet.len() - 80 - rows..sheet.len() - 80],
+        _ => &sheet[sheet.len() - TRAILER_BYTES - rows..sheet.len() - TRAILER_BYTES],
     }
 }
 
 /// Row `i`; none past the last, or where 16, 1 or 2 refuses the sheet. It does not check the sheet.
 pub fn sheet_row(sheet: &[u8], i: usize) -> Option<Row> {
-    let mut out = [0.0; 8];
-    // SAFETY: the sheet comes with its length; out is eight numbers, which nothing else holds.
+    let mut out = [0.0; ROW_NUMBERS];
+    // SAFETY: the sheet comes with its length; out is a row's numbers, which nothing else holds.
     let n = unsafe { ffi::physica_sheet_row(sheet.as_ptr(), sheet.len(), i, &mut out) };
     let [potential, x, y, z, bx, by, bz, total] = out;
-    (n == 8).then_some(Row { potential, gradient: [x, y, z], anomaly: [bx, by, bz], total })
+    (n == ROW_NUMBERS).then_some(Row { potential, gradient: [x, y, z], anomaly: [bx, by, bz], total })
 }
 
 /// A sheet's rows, one after the other.

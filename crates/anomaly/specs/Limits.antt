@@ -8,4 +8,4 @@ unfoldable pub bothWithinLimits : Vector → Vector → Bool
 bothWithinLimits a b = vectorWithinLimits a && vectorWithinLimits b
 
 unfoldable pub hessianWithinLimits : Hessian → Bool
-hessianWithinLimits T = vectorWithinLimits (T .x) && (vectorWithinLimits (T .y) && vectorWithinLimits (T .z))
+hessianWithinLimits T = vectorWithinLimits (T .x) && vectorWithinLimits (T .y) && vectorWithinLimits (T .z)

@@ -1,4 +1,4 @@
--- Document 01's reference value: the total field of (0, 0, 0) and (3, 4, 0) is 5. Assumes nothing.
+-- Document 01's reference value. States: `total-field-of-3-4-0`: the total field of (0, 0, 0) and (3, 4, 0) is 5. Assumes nothing.
 use mathlib.Core.Path.{_≡_, refl}
 use lib.Ieee.{Float, ofBits, add, mul, div}
 use Rattle.doubles.specs.Constants.{0·0, 3·0, 4·0, 5·0}

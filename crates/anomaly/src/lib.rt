@@ -39,7 +39,7 @@ pub fn hessian_within_limits(hessian: Hessian) -> bool
     let x = hessian.x;
     let y = hessian.y;
     let z = hessian.z;
-    vector_within_limits(x) & (vector_within_limits(y) & vector_within_limits(z))
+    vector_within_limits(x) & vector_within_limits(y) & vector_within_limits(z)
 }
 
 // ---- any body

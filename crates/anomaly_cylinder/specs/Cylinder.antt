@@ -1,6 +1,6 @@
--- An infinite cylinder of radius a along a direction through q, magnetised uniformly at m, seen from p: outside, the two-dimensional dipole of the line moment πa²m; inside,
--- μ₀m/2 across the axis and μ₀m along it. Both are Poisson's relation (`body`) with the Hessian of the cylinder's unit-density potential. With the roundings in the order of the
--- Rust. Definitions only.
+-- An infinite cylinder of radius a along a direction through q, magnetised uniformly at m, seen from p: outside, the two-dimensional dipole of the line moment πa²m;
+-- inside, μ₀m/2 across the axis and μ₀m along it. Both are Poisson's relation (`body`) with the Hessian of the cylinder's unit-density potential. With the roundings
+-- in the order of the Rust. Definitions only.
 use mathlib.Core.Bool.{Bool, _&&_, cond}
 use lib.Ieee.{Float, neg, lt}
 use Rattle.doubles.specs.Rounded.{_⊖_, _⊗_, _⊘_}
@@ -16,8 +16,8 @@ use Rattle.anomaly.specs.Body.{μ₀/4π, bodyOf}
 use Rattle.anomaly.specs.Limits.{bothWithinLimits}
 
 -- k v
-unfoldable pub times : Float → Vector → Vector
-times k v = record { x = k ⊗ v .x; y = k ⊗ v .y; z = k ⊗ v .z }
+unfoldable pub timesVector : Float → Vector → Vector
+timesVector k v = record { x = k ⊗ v .x; y = k ⊗ v .y; z = k ⊗ v .z }
 
 -- v - w u
 unfoldable pub minusTimes : Vector → Float → Vector → Vector
@@ -33,7 +33,7 @@ projector u =
 unfoldable pub cylinderInside : Hessian → Hessian
 cylinderInside P =
     let k = neg 2·0 ⊗ π in
-    record { x = times k (P .x); y = times k (P .y); z = times k (P .z) }
+    record { x = timesVector k (P .x); y = timesVector k (P .y); z = timesVector k (P .z) }
 
 -- row i of k (2 ρ ρᵀ - r² P), where e is row i of P
 unfoldable pub lineRow : Float → Float → Vector → Float → Vector → Vector
@@ -61,7 +61,7 @@ cylinderOf μ p q u a m =
     bodyOf μ (cylinderHessian a (minusTimes d (dot d u) u) (projector u)) m
 
 unfoldable pub cylinderWithinLimits : Vector → Vector → Vector → Float → Vector → Bool
-cylinderWithinLimits p q axis a m = bothWithinLimits p q && (bothWithinLimits axis m && withinLimits a)
+cylinderWithinLimits p q axis a m = bothWithinLimits p q && bothWithinLimits axis m && withinLimits a
 
 -- the public call, refused by 3, and by 14 unless a > 0 and the axis's length, as computed, is above 0
 unfoldable pub cylinder : Vector → Vector → Vector → Float → Vector → Answer Vector

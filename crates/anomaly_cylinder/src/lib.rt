@@ -9,11 +9,11 @@ use newtonian::over;
 use refusals::Refusal;
 ghost use mathlib.Core.Path.{_≡_};
 ghost use Rattle.anomaly.specs.Answers.{vectorAnswer};
-ghost use Rattle.anomaly_cylinder.specs.Cylinder.{times, minusTimes, projector, cylinderInside, lineRow, cylinderOutside, cylinderHessian, cylinderOf, cylinderWithinLimits, cylinder};
+ghost use Rattle.anomaly_cylinder.specs.Cylinder.{timesVector, minusTimes, projector, cylinderInside, lineRow, cylinderOutside, cylinderHessian, cylinderOf, cylinderWithinLimits, cylinder};
 
 // k v
-fn times(k: f64, v: Vector) -> Vector
-    ensures { λ r. ⌜ r ≡ times k v ⌝ }
+fn times_vector(k: f64, v: Vector) -> Vector
+    ensures { λ r. ⌜ r ≡ timesVector k v ⌝ }
 {
     Vector {
         x: k * v.x,
@@ -54,9 +54,9 @@ fn cylinder_inside(across: Hessian) -> Hessian
     let ex = across.x;
     let ey = across.y;
     let ez = across.z;
-    let x = times(k, ex);
-    let y = times(k, ey);
-    let z = times(k, ez);
+    let x = times_vector(k, ex);
+    let y = times_vector(k, ey);
+    let z = times_vector(k, ez);
     Hessian { x, y, z }
 }
 
@@ -106,7 +106,7 @@ pub fn cylinder_of(mu: f64, p: Vector, point: Vector, u: Vector, a: f64, m: Vect
 fn cylinder_within_limits(p: Vector, point: Vector, axis: Vector, a: f64, m: Vector) -> bool
     ensures { λ r. ⌜ r ≡ cylinderWithinLimits p point axis a m ⌝ }
 {
-    both_within_limits(p, point) & (both_within_limits(axis, m) & doubles::within_limits(a))
+    both_within_limits(p, point) & both_within_limits(axis, m) & doubles::within_limits(a)
 }
 
 // The field (T) at p of an infinite cylinder of radius a (m) along `axis` through `point`, magnetised uniformly at

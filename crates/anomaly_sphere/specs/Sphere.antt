@@ -41,7 +41,7 @@ unfoldable pub sphereOf : Float → Vector → Vector → Float → Vector → V
 sphereOf μ p c a m = bodyOf μ (sphereHessian a (difference p c)) m
 
 unfoldable pub sphereWithinLimits : Vector → Vector → Float → Vector → Bool
-sphereWithinLimits p c a m = bothWithinLimits p c && (vectorWithinLimits m && withinLimits a)
+sphereWithinLimits p c a m = bothWithinLimits p c && vectorWithinLimits m && withinLimits a
 
 -- the public call, refused by 3, and by 14 unless a > 0
 unfoldable pub sphere : Vector → Vector → Float → Vector → Answer Vector

@@ -55,7 +55,7 @@ pub fn sphere_of(mu: f64, p: Vector, centre: Vector, a: f64, m: Vector) -> Vecto
 fn sphere_within_limits(p: Vector, centre: Vector, a: f64, m: Vector) -> bool
     ensures { λ r. ⌜ r ≡ sphereWithinLimits p centre a m ⌝ }
 {
-    both_within_limits(p, centre) & (newtonian::vector_within_limits(m) & doubles::within_limits(a))
+    both_within_limits(p, centre) & newtonian::vector_within_limits(m) & doubles::within_limits(a)
 }
 
 // The field (T) at p of a sphere of radius a (m), magnetised uniformly at m (A/m); or refused by 3, or by 14

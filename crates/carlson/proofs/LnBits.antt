@@ -18,7 +18,7 @@ use borrow.Author.Tests.{lt-ltb, le-ltb, le-leb, lt-leb}
 use Rattle.doubles.proofs.Value.{unique}
 use Rattle.doubles.proofs.Exponent.{minus-same, minus-add, minus-sub}
 use Rattle.doubles.proofs.Fields.{tz-div, odd-is, size-is, bits-lt, normal, subnormal}
-use Rattle.carlson.specs.Logarithm.{places, exponent, fraction, lnAt, lnBy}
+use Rattle.carlson.specs.Logarithm.{binaryPlaces, exponent, fraction, lnAt, lnBy}
 use Rattle.carlson.specs.LogarithmOfBits.{lnOfBits}
 
 -- ---- q from 2 ^ 52 up and below 2 ^ 53 is r 2 ^ z with r odd: r has 53 - z digits
@@ -75,7 +75,7 @@ module _ (q : ℕ) (lo : 2 ^ 52 ≤ q) (hi : q < 2 ^ 53) where
   four-q : 4 * rest * 2 ^ zeros ≡ 4 * q
   four-q = mul-assoc 4 rest (2 ^ zeros) ∙ ap (λ (n : ℕ). 4 * n) product
 
-  places-low : q < 3 * 2 ^ 51 → places rest ≡ 52 - zeros + 0
+  places-low : q < 3 * 2 ^ 51 → binaryPlaces rest ≡ 52 - zeros + 0
   places-low h =
       ap (λ (b : Bool). cond b (size rest) (size rest - 1))
       (lt-leb (3 * 2 ^ size rest) (4 * rest) (lt-of-mul-lt-mul-right (2 ^ zeros) (subst (λ (n : ℕ). n < 3 * 2 ^ size rest * 2 ^ zeros) (sym four-q) (subst (λ (n : ℕ). 4 * q < n) (sym scaled) (small q h)))))
@@ -87,7 +87,7 @@ module _ (q : ℕ) (lo : 2 ^ 52 ≤ q) (hi : q < 2 ^ 53) where
       pred : (n : ℕ) → suc n - 1 ≡ n + 0
       pred n = omega arith
 
-  places-high : 3 * 2 ^ 51 ≤ q → places rest ≡ 52 - zeros + 1
+  places-high : 3 * 2 ^ 51 ≤ q → binaryPlaces rest ≡ 52 - zeros + 1
   places-high h =
       ap (λ (b : Bool). cond b (size rest) (size rest - 1))
       (le-leb (3 * 2 ^ size rest) (4 * rest) (le-of-mul-le-mul-right (subst (λ (n : ℕ). 3 * 2 ^ size rest * 2 ^ zeros ≤ n) (sym four-q) (subst (λ (n : ℕ). n ≤ 4 * q) (sym scaled) (large q h))) (pow-pos zeros)))
@@ -225,7 +225,7 @@ module _ (R_C : Float → Float → Float) where
     abbrev z : ℕ
     z = zeros q lo hi
 
-    t-is : places r ≡ 52 - z + i → fraction r ≡ ofBits binary64 (d + (1023 - i) * 2 ^ 52)
+    t-is : binaryPlaces r ≡ 52 - z + i → fraction r ≡ ofBits binary64 (d + (1023 - i) * 2 ^ 52)
     t-is e =
         ap (λ (p : ℕ). fin false r (minus 0 p)) e
         ∙ ap (λ (e : ℤ). fin false r e) (minus-same 0 (52 - z + i) (1022 - i + z) 1074 (fit z (zeros-lt q lo hi)))
@@ -236,7 +236,7 @@ module _ (R_C : Float → Float → Float) where
         fit : (z : ℕ) → z < 53 → 0 + 1074 ≡ 1022 - i + z + (52 - z + i)
         fit z h = omega arith
 
-    k-is : places r ≡ 52 - z + i → exponent r (minus (F + z) 1074) -ℤ pos h ≡ minus (suc F + i) (1023 + h)
+    k-is : binaryPlaces r ≡ 52 - z + i → exponent r (minus (F + z) 1074) -ℤ pos h ≡ minus (suc F + i) (1023 + h)
     k-is e =
         ap (λ (p : ℕ). minus (F + z) 1074 +ℤ pos p -ℤ pos h) e
         ∙ ap (λ (k : ℤ). k -ℤ pos h) (minus-add (F + z) 1074 (52 - z + i))
@@ -246,7 +246,7 @@ module _ (R_C : Float → Float → Float) where
         fit : (z : ℕ) → z < 53 → F + z + (52 - z + i) + (1023 + h) ≡ suc F + i + (1074 + h)
         fit z g = omega arith
 
-    split-is : places r ≡ 52 - z + i → at (minus (suc F + i) (1023 + h)) (ofBits binary64 (d + (1023 - i) * 2 ^ 52)) ≡ shifted h (odd 53 false q F 1074)
+    split-is : binaryPlaces r ≡ 52 - z + i → at (minus (suc F + i) (1023 + h)) (ofBits binary64 (d + (1023 - i) * 2 ^ 52)) ≡ shifted h (odd 53 false q F 1074)
     unfolding shifted
     split-is e = ap₂ at (sym (k-is e)) (sym (t-is e)) ∙ ap (shifted h) (sym (written q lo hi F))
 
@@ -300,7 +300,7 @@ module _ (R_C : Float → Float → Float) where
       let t = trailingZeros 53 b in
       let r = b / 2 ^ t in
       ap (shifted 1074) (of-int b B small ∙ odd-is 53 false b 1074 1074 B)
-      ∙ ap (λ (k : ℤ). at k (fraction r)) (same t (places r))
+      ∙ ap (λ (k : ℤ). at k (fraction r)) (same t (binaryPlaces r))
       ∙ ap (shifted 0) (sym (odd-is 53 false b 0 1074 B))
     where
       same : (t p : ℕ) → minus (1074 + t) 1074 +ℤ pos p -ℤ pos 1074 ≡ minus (0 + t) 1074 +ℤ pos p -ℤ pos 0

@@ -10,7 +10,7 @@ use Rattle.carlson.specs.Rc.{rcValue}
 abbrev pub withSign : Float → Float → Float
 withSign z w = cond (negative z) (neg w) w
 
--- over any R_C, so that `AtMostSix` can say at which arguments it is used
+-- over any R_C, so that special_laws (`AtMostSix`) can say at which arguments it is used
 module _ (R_C : Float → Float → Float) where
   -- for |z| ≤ 1
   unfoldable pub atanWithin : Float → Float
@@ -20,7 +20,8 @@ module _ (R_C : Float → Float → Float) where
   unfoldable pub atanBy : Float → Float
   atanBy z = cond (isNan z) nan (cond (le (abs z) 1·0) (atanWithin z) (withSign z π/2 ⊖ atanWithin (1·0 ⊘ z)))
 
-  -- NaN if either is. If s is zero: s itself for c > 0 or c = +0, else π with s's sign. If c is zero: π/2 with s's sign. Otherwise atan(s/c), and for c < 0 plus π with s's sign
+  -- NaN if either is. If s is zero: s itself for c > 0 or c = +0, else π with s's sign. If c is zero: π/2 with s's sign. Otherwise atan(s/c), and for c < 0 plus π
+  -- with s's sign
   unfoldable pub atan2By : Float → Float → Float
   atan2By s c =
       cond (isNan s || isNan c) nan

@@ -1,5 +1,6 @@
--- What Carlson's duplication algorithms share (B. C. Carlson, "Numerical computation of real or complex elliptic integrals", Numer. Algorithms 10, 13-26 (1995), section 2),
--- with the roundings of the Rust: x, y, .. and A become a quarter of their sums with λ, and 4⁻ⁿ a quarter of itself. Definitions only.
+-- What Carlson's duplication algorithms share (B. C. Carlson, "Numerical computation of real or complex elliptic integrals", Numer. Algorithms 10, 13-26 (1995),
+-- section 2), with the roundings of the Rust: x, y, .. and A become a quarter of their sums with λ, and 4⁻ⁿ a quarter of itself. The definitions of each integral
+-- end in its letter: C, F, D or J. Definitions only.
 use mathlib.Core.Bool.{Bool}
 use Prim.Native.Nat.{ℕ}
 use lib.Ieee.{Float, le}

@@ -7,75 +7,76 @@ use Rattle.doubles.specs.Rounded.{_⊕_, _⊖_, _⊗_, _⊘_}
 use Rattle.doubles.specs.Constants.{0·0, 1·0, 2·0, 3·0, 7·0, 8·0, 9·0, 10·0, +∞}
 use Rattle.doubles.specs.Magnitude.{abs}
 use Rattle.roots.specs.Root.{Root}
+use Rattle.refusals.specs.Causes.{unless, causeOr}
 use Rattle.refusals.specs.declared.Refusal.the-variants.{OutsideDomain, TooManyRounds}
 use Rattle.carlson.specs.Constants.{[3ε]^-⅛, 22·0, 159·0, 208·0}
 use Rattle.carlson.specs.Rounds.{rounds}
 use Rattle.carlson.specs.CarlsonLoop.{maxRounds, quarter, loopTest}
-use Rattle.carlson.specs.declared.Duplication.{Duplication}
+use Rattle.carlson.specs.declared.RoundC.{RoundC}
 use Rattle.carlson.specs.declared.Integral.{Integral}
 use Rattle.carlson.specs.declared.Integral.the-variants.{Value, Refused}
 
 -- ---- y above zero
 
 -- λₙ = 2 √xₙ √yₙ + yₙ
-abbrev pub λₙ : Duplication → Float
-λₙ d = 2·0 ⊗ Root (d .x) ⊗ Root (d .y) ⊕ d .y
+abbrev pub λC : RoundC → Float
+λC d = 2·0 ⊗ Root (d .x) ⊗ Root (d .y) ⊕ d .y
 
 -- one duplication, from round n to n + 1; f is 4⁻ⁿ
-unfoldable pub duplicate : Duplication → Duplication
-duplicate d = record {
-  x = quarter (d .x ⊕ λₙ d);
-  y = quarter (d .y ⊕ λₙ d);
-  a = quarter (d .a ⊕ λₙ d);
+unfoldable pub duplicateC : RoundC → RoundC
+duplicateC d = record {
+  x = quarter (d .x ⊕ λC d);
+  y = quarter (d .y ⊕ λC d);
+  a = quarter (d .a ⊕ λC d);
   f = quarter (d .f);
   n = d .n + 1;
 }
 
-abbrev pub A₀ : Float → Float → Float
-A₀ x y = (x ⊕ 2·0 ⊗ y) ⊘ 3·0
+abbrev pub A₀C : Float → Float → Float
+A₀C x y = (x ⊕ 2·0 ⊗ y) ⊘ 3·0
 
-abbrev pub Q : Float → Float → Float
-Q x y = [3ε]^-⅛ ⊗ abs (A₀ x y ⊖ x)
+abbrev pub QC : Float → Float → Float
+QC x y = [3ε]^-⅛ ⊗ abs (A₀C x y ⊖ x)
 
-abbrev pub testAt : Float → Duplication → Bool
-testAt q d = loopTest q (d .a) (d .f)
+abbrev pub testC : Float → RoundC → Bool
+testC q d = loopTest q (d .a) (d .f)
 
 -- the state after the loop
-unfoldable pub duplications : Float → Float → Duplication
-duplications x y = rounds (testAt (Q x y)) duplicate maxRounds (record { x = x; y = y; a = A₀ x y; f = 1·0; n = 0 })
+unfoldable pub duplicationsC : Float → Float → RoundC
+duplicationsC x y = rounds (testC (QC x y)) duplicateC maxRounds (record { x = x; y = y; a = A₀C x y; f = 1·0; n = 0 })
 
 -- 1 + s² (3/10 + s (1/7 + s (3/8 + s (9/22 + s (159/208 + 9s/8)))))
-unfoldable pub series : Float → Float
-series s =
+unfoldable pub seriesC : Float → Float
+seriesC s =
     1·0
     ⊕ s ⊗ s ⊗ (3·0 ⊘ 10·0 ⊕ s ⊗ (1·0 ⊘ 7·0 ⊕ s ⊗ (3·0 ⊘ 8·0 ⊕ s ⊗ (9·0 ⊘ 22·0 ⊕ s ⊗ (159·0 ⊘ 208·0 ⊕ s ⊗ 9·0 ⊘ 8·0)))))
 
 -- the series at s = (y - A₀) / (4ⁿ Aₙ), over √Aₙ; refused where the test still holds
-abbrev pub ending : Float → Float → Duplication → Integral
+abbrev pub ending : Float → Float → RoundC → Integral
 ending x y d =
-    let s = (y ⊖ A₀ x y) ⊗ d .f ⊘ d .a in
-    cond (testAt (Q x y) d) (Refused TooManyRounds) (Value (series s ⊘ Root (d .a)))
+    let s = (y ⊖ A₀C x y) ⊗ d .f ⊘ d .a in
+    cond (testC (QC x y) d) (Refused TooManyRounds) (Value (seriesC s ⊘ Root (d .a)))
 
 unfoldable pub rcAbove : Float → Float → Integral
-rcAbove x y = ending x y (duplications x y)
+rcAbove x y = ending x y (duplicationsC x y)
 
 -- ---- all y
 
 -- r times an integral: a refusal is passed on
-abbrev pub times : Float → Integral → Integral
-times r (Value v) = Value (r ⊗ v)
-times r (Refused c) = Refused c
+abbrev pub timesIntegral : Float → Integral → Integral
+timesIntegral r (Value v) = Value (r ⊗ v)
+timesIntegral r (Refused c) = Refused c
 
 -- y = 0 gives ∞; y < 0 the Cauchy principal value √(x / (x - y)) R_C(x - y, -y) (Carlson's Eq. 2.13a), where -y is above zero
 unfoldable pub rc : Float → Float → Integral
 rc x y =
     cond (eq y 0·0) (Value +∞)
-    (cond (lt y 0·0) (times (Root (x ⊘ (x ⊖ y))) (rcAbove (x ⊖ y) (neg y)))
+    (cond (lt y 0·0) (timesIntegral (Root (x ⊘ (x ⊖ y))) (rcAbove (x ⊖ y) (neg y)))
     (rcAbove x y))
 
--- the public call, which asks first that both are finite and x ≥ 0
+-- the public call, refused by 14 unless both are finite and x ≥ 0
 unfoldable pub carlsonRc : Float → Float → Integral
-carlsonRc x y = cond (finite x && finite y && le 0·0 x) (rc x y) (Refused OutsideDomain)
+carlsonRc x y = causeOr Refused (unless (finite x && finite y && le 0·0 x) OutsideDomain) (rc x y)
 
 -- its value, and d where it is refused
 abbrev pub valueOr : Float → Integral → Float
@@ -85,6 +86,6 @@ valueOr d (Refused c) = d
 unfoldable pub rcOr : Float → Float → Float → Float
 rcOr d x y = valueOr d (rc x y)
 
--- for ln, atan and atan2, where it is never refused (`AtMostSix`)
+-- for ln, atan and atan2, where it is never refused (special_laws, `AtMostSix`)
 abbrev pub rcValue : Float → Float → Float
 rcValue = rcOr nan

@@ -1,4 +1,4 @@
--- Laws of a loop of at most n rounds: where it stops, how it goes on, and how many rounds it makes. Assumes nothing.
+-- Laws of a loop of at most n rounds. States: `stop` and `none-left`: where it ends; `one-more`: how it goes on; `at-most`: how many rounds it makes. Assumes nothing.
 use Prim.Native.Nat.{ℕ, zero, suc, _+_, _≤_}
 use native.Mathlib.Omega.{arith}
 use native.Mathlib.Nat.{le-trans, le-of-eq, le-add-right}

@@ -8,7 +8,7 @@ ghost use lib.Ieee.Positive.{positive};
 ghost use Rattle.roots.specs.Root.{Root};
 ghost use Rattle.carlson.specs.CarlsonLoop.{maxRounds, loopTest};
 ghost use Rattle.carlson.specs.Rounds.{rounds};
-ghost use Rattle.carlson.specs.Rc.{duplicate, testAt, series, rcAbove, times, rc, carlsonRc, rcValue};
+ghost use Rattle.carlson.specs.Rc.{duplicateC, testC, seriesC, rcAbove, timesIntegral, rc, carlsonRc, rcValue};
 ghost use Rattle.carlson.specs.Logarithm.{lnAt, ln};
 ghost use Rattle.carlson.specs.LogarithmOfBits.{lnOfBits};
 ghost use Rattle.carlson.specs.Arctangent.{withSign, atanWithin, atan, atan2};
@@ -17,12 +17,12 @@ ghost use Rattle.carlson.specs.Arctangent.{withSign, atanWithin, atan, a
 pub const MAX_ROUNDS: u32 = 64;
 
 // (3ε)^(-1/8)
-const RC_FACTOR: f64 = 78.8959690786408;
+const RC_FACTOR: f64 = f64::from_bits(0x4053_b957_8eb0_bf54);
 
 const LN_2: f64 = 0.6931471805599453;
 
-// What the duplication carries from round to round: Carlson's x, y and A at round n, and f = 4^-n.
-pub struct Duplication {
+// What the duplication of R_C carries from round to round: Carlson's x, y and A at round n, f = 4^-n, and n.
+pub struct RoundC {
     pub x: f64,
     pub y: f64,
     pub a: f64,
@@ -56,12 +56,12 @@ fn root_of(x: f64) -> f64
 }
 
 // From round n to n + 1.
-fn duplicate(s: Duplication) -> Duplication
+fn duplicate_c(s: RoundC) -> RoundC
     requires { ⌜ s .n < maxRounds ⌝ }
-    ensures { λ r. ⌜ r ≡ duplicate s ⌝ }
+    ensures { λ r. ⌜ r ≡ duplicateC s ⌝ }
 {
     let lambda = 2.0 * root_of(s.x) * roots::root(s.y) + s.y;
-    Duplication {
+    RoundC {
         x: (s.x + lambda) / 4.0,
         y: (s.y + lambda) / 4.0,
         a: (s.a + lambda) / 4.0,
@@ -71,23 +71,23 @@ fn duplicate(s: Duplication) -> Duplication
 }
 
 // Duplications while the loop's test holds, at most MAX_ROUNDS.
-fn repeat(q: f64, s: Duplication) -> Duplication
+fn repeat_c(q: f64, s: RoundC) -> RoundC
     requires { ⌜ s .n ≡ 0 ⌝ }
-    ensures { λ r. ⌜ r ≡ rounds (testAt q) duplicate maxRounds s ⌝ }
+    ensures { λ r. ⌜ r ≡ rounds (testC q) duplicateC maxRounds s ⌝ }
 {
     let mut t = s;
     while t.n < MAX_ROUNDS {
         if !loop_test(q, t.a, t.f) {
             return t;
         }
-        t = duplicate(t);
+        t = duplicate_c(t);
     }
     t
 }
 
 // The series that ends R_C.
-fn series(s: f64) -> f64
-    ensures { λ r. ⌜ r ≡ series s ⌝ }
+fn series_c(s: f64) -> f64
+    ensures { λ r. ⌜ r ≡ seriesC s ⌝ }
 {
     1.0
         + s
@@ -104,9 +104,9 @@ fn rc_above(x: f64, y: f64) -> Integral
 {
     let a0 = (x + 2.0 * y) / 3.0;
     let q = RC_FACTOR * doubles::abs(a0 - x);
-    let s = repeat(
+    let s = repeat_c(
         q,
-        Duplication {
+        RoundC {
             x,
             y,
             a: a0,
@@ -117,12 +117,12 @@ fn rc_above(x: f64, y: f64) -> Integral
     if loop_test(q, s.a, s.f) {
         return Integral::Refused(Refusal::TooManyRounds);
     }
-    Integral::Value(series((y - a0) * s.f / s.a) / roots::root(s.a))
+    Integral::Value(series_c((y - a0) * s.f / s.a) / roots::root(s.a))
 }
 
 // r times an integral, whose refusal is passed on.
-pub fn times(r: f64, c: Integral) -> Integral
-    ensures { λ p. ⌜ p ≡ times r c ⌝ }
+pub fn times_integral(r: f64, c: Integral) -> Integral
+    ensures { λ p. ⌜ p ≡ timesIntegral r c ⌝ }
 {
     match c {
         Integral::Value(v) => Integral::Value(r * v),
@@ -138,7 +138,7 @@ pub fn rc(x: f64, y: f64) -> Integral
         return Integral::Value(1.0 / 0.0);
     }
     if y < 0.0 {
-        return times(roots::root(x / (x - y)), rc_above(x - y, -y));
+        return times_integral(roots::root(x / (x - y)), rc_above(x - y, -y));
     }
     rc_above(x, y)
 }
@@ -148,12 +148,8 @@ pub fn rc(x: f64, y: f64) -> Integral
 pub fn carlson_rc(x: f64, y: f64) -> Integral
     ensures { λ r. ⌜ r ≡ carlsonRc x y ⌝ }
 {
-    if doubles::is_finite(x) {
-        if doubles::is_finite(y) {
-            if 0.0 <= x {
-                return rc(x, y);
-            }
-        }
+    if doubles::is_finite(x) & doubles::is_finite(y) & (0.0 <= x) {
+        return rc(x, y);
     }
     Integral::Refused(Refusal::OutsideDomain)
 }

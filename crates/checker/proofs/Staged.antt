@@ -1,30 +1,57 @@
--- The stages in order are `checkerCause`, and the verdict is that of it. Assumes nothing.
-use mathlib.Core.Path.{_≡_, refl, sym, _∙_}
+-- The stages in order are `checkerCause` (`staged`), and the verdict is that of it (`refusing`, `accepting`). Assumes nothing.
+use mathlib.Core.Path.{_≡_, refl, _∙_}
 use mathlib.Core.List.{List}
 use Prim.Native.Nat.{ℕ}
 use Rattle.refusals.specs.declared.Refusal.{Refusal}
 use Rattle.refusals.specs.Causes.{orElse}
 use Rattle.refusals.specs.declared.Cause.{Cause}
 use Rattle.refusals.specs.declared.Cause.the-variants.{None, Refused}
-use Rattle.refusals.proofs.Causes.{both}
 use Rattle.sheet.specs.Checker.{kindIn, stationsIn, checkerCause, openingCause, verdict}
 use Rattle.sheet.specs.declared.Verdict as verdicts
-use Rattle.sheet.specs.Reading.{stations-read}
-use Rattle.checker_body.specs.Stages.{listsCause, volumeCause, stationsCause, bodyCause}
+use Rattle.sheet_laws.specs.Reading.{stations-read}
+use Rattle.checker_lists.specs.Stages.{indicesCause, listsCause, volumeCause, stationsCause}
+use Rattle.checker_stations.specs.Outcome.{refusedBy, outcomeOr, stationsOutcome}
+use Rattle.checker_stations.specs.declared.Outcome.{Outcome}
+use Rattle.checker.specs.Later.{laterOutcome}
 
 in-turn : (a b c : Cause) → orElse (orElse a b) c ≡ orElse a (orElse b c)
 in-turn None b c = refl
 in-turn (Refused r) b c = refl
 
-pub staged : (b : List ℕ) → checkerCause b ≡ orElse (openingCause b) (bodyCause b)
-unfolding checkerCause openingCause bodyCause listsCause volumeCause stationsCause
-staged b = simp (in-turn, stations-read b)
+-- an earlier refusal comes first
+first-cause : (c : Cause) (o : Outcome) → outcomeOr c o .cause ≡ orElse c (o .cause)
+unfolding outcomeOr
+first-cause None o = refl
+first-cause (Refused r) o = refl
+
+pub staged : (b : List ℕ) → checkerCause b ≡ orElse (openingCause b) (laterOutcome b .cause)
+unfolding checkerCause openingCause laterOutcome listsCause indicesCause volumeCause stationsOutcome stationsCause
+staged b = simp (first-cause, in-turn, stations-read b)
+
+-- ---- what is found at each stage
+
+module _ (b : List ℕ) where
+  pub lists-first : (r : Refusal) → listsCause b ≡ Refused r → refusedBy r ≡ laterOutcome b
+  unfolding laterOutcome outcomeOr
+  lists-first r e = rw e
+
+  pub volume-next : (r : Refusal) → listsCause b ≡ None → volumeCause b ≡ Refused r → refusedBy r ≡ laterOutcome b
+  unfolding laterOutcome outcomeOr
+  volume-next r p e = rw (p, e)
+
+  pub stations-last : listsCause b ≡ None → volumeCause b ≡ None → stationsOutcome b ≡ laterOutcome b
+  unfolding laterOutcome outcomeOr
+  stations-last p q = rw (p, q)
 
 -- ---- the verdict
 
 module _ (b : List ℕ) where
-  pub opening-none : checkerCause b ≡ None → openingCause b ≡ None
-  opening-none e = both (openingCause b) (bodyCause b) (sym (staged b) ∙ e) .0
+  pub opening-refused : (r : Refusal) → openingCause b ≡ Refused r → checkerCause b ≡ Refused r
+  opening-refused r e = staged b ∙ rw e
+
+  -- the opening let the bytes through: then the outcome's cause decides
+  pub found : {c : Cause} → openingCause b ≡ None → laterOutcome b .cause ≡ c → checkerCause b ≡ c
+  found p q = staged b ∙ rw (p, q)
 
   pub refusing : (r : Refusal) → checkerCause b ≡ Refused r → verdicts.the-variants.Refused r ≡ verdict b
   unfolding verdict

@@ -5,11 +5,17 @@ ghost use mathlib.Core.Bool.{_&&_};
 ghost use Prim.Native.Nat.{_*_, _≤_, _<_};
 ghost use lib.Dec.{leb};
 ghost use lib.ListN.{length};
+ghost use Rattle.mesh_orders.specs.Edges.{maxVertices};
 ghost use Rattle.sheet.specs.Checker.{verticesIn, facesIn};
 ghost use Rattle.sheet_readers.specs.Opened.{Opened};
-ghost use Rattle.checker_body.specs.Stages.{bodyCause};
-use crate::in_room;
-use refusals::Cause;
+ghost use Rattle.checker.specs.Later.{laterOutcome};
+use crate::stages::in_room;
+use checker_stations::Outcome;
+
+// A room is for so many vertices and twice as many faces, and each for GROWTH times as many as the one before; the last is for every body.
+const SMALLEST: u32 = 40;
+
+const GROWTH: u32 = 4;
 
 // A caller need know no more of a room than how much it is. `vertices_40` is for 40 vertices, `uses_40` and `logs_40` for the edge uses of twice as many faces.
 fn vertices_40() -> [f64; 120]
@@ -121,9 +127,9 @@ fn logs_all() -> [f64; 24576]
 }
 
 // At most 40 vertices and 80 faces.
-fn in_room_40(sheet: &[u8]) -> Cause
+fn in_room_40(sheet: &[u8]) -> Outcome
     requires { ⌜ Opened (now sheet) × (verticesIn (now sheet) ≤ 40) × (facesIn (now sheet) ≤ 80) ⌝ }
-    ensures { λ r. ⌜ r ≡ bodyCause (now (sheet .entry)) ⌝ }
+    ensures { λ r. ⌜ r ≡ laterOutcome (now (sheet .entry)) ⌝ }
 {
     let mut verts = vertices_40();
     let mut faces = uses_40();
@@ -133,9 +139,9 @@ fn in_room_40(sheet: &[u8]) -> Cause
 }
 
 // At most 160 vertices and 320 faces.
-fn in_room_160(sheet: &[u8]) -> Cause
+fn in_room_160(sheet: &[u8]) -> Outcome
     requires { ⌜ Opened (now sheet) × (verticesIn (now sheet) ≤ 160) × (facesIn (now sheet) ≤ 320) ⌝ }
-    ensures { λ r. ⌜ r ≡ bodyCause (now (sheet .entry)) ⌝ }
+    ensures { λ r. ⌜ r ≡ laterOutcome (now (sheet .entry)) ⌝ }
 {
     let mut verts = vertices_160();
     let mut faces = uses_160();
@@ -145,9 +151,9 @@ fn in_room_160(sheet: &[u8]) -> Cause
 }
 
 // At most 640 vertices and 1,280 faces.
-fn in_room_640(sheet: &[u8]) -> Cause
+fn in_room_640(sheet: &[u8]) -> Outcome
     requires { ⌜ Opened (now sheet) × (verticesIn (now sheet) ≤ 640) × (facesIn (now sheet) ≤ 1280) ⌝ }
-    ensures { λ r. ⌜ r ≡ bodyCause (now (sheet .entry)) ⌝ }
+    ensures { λ r. ⌜ r ≡ laterOutcome (now (sheet .entry)) ⌝ }
 {
     let mut verts = vertices_640();
     let mut faces = uses_640();
@@ -157,9 +163,9 @@ fn in_room_640(sheet: &[u8]) -> Cause
 }
 
 // At most 2,560 vertices and 5,120 faces.
-fn in_room_2560(sheet: &[u8]) -> Cause
+fn in_room_2560(sheet: &[u8]) -> Outcome
     requires { ⌜ Opened (now sheet) × (verticesIn (now sheet) ≤ 2560) × (facesIn (now sheet) ≤ 5120) ⌝ }
-    ensures { λ r. ⌜ r ≡ bodyCause (now (sheet .entry)) ⌝ }
+    ensures { λ r. ⌜ r ≡ laterOutcome (now (sheet .entry)) ⌝ }
 {
     let mut verts = vertices_2560();
     let mut faces = uses_2560();
@@ -169,9 +175,9 @@ fn in_room_2560(sheet: &[u8]) -> Cause
 }
 
 // At most 10,240 vertices and 20,480 faces.
-fn in_room_10240(sheet: &[u8]) -> Cause
+fn in_room_10240(sheet: &[u8]) -> Outcome
     requires { ⌜ Opened (now sheet) × (verticesIn (now sheet) ≤ 10240) × (facesIn (now sheet) ≤ 20480) ⌝ }
-    ensures { λ r. ⌜ r ≡ bodyCause (now (sheet .entry)) ⌝ }
+    ensures { λ r. ⌜ r ≡ laterOutcome (now (sheet .entry)) ⌝ }
 {
     let mut verts = vertices_10240();
     let mut faces = uses_10240();
@@ -181,9 +187,9 @@ fn in_room_10240(sheet: &[u8]) -> Cause
 }
 
 // Every body within document 01's limits.
-fn in_room_all(sheet: &[u8]) -> Cause
+fn in_room_all(sheet: &[u8]) -> Outcome
     requires { ⌜ Opened (now sheet) ⌝ }
-    ensures { λ r. ⌜ r ≡ bodyCause (now (sheet .entry)) ⌝ }
+    ensures { λ r. ⌜ r ≡ laterOutcome (now (sheet .entry)) ⌝ }
 {
     let mut verts = vertices_all();
     let mut faces = uses_all();
@@ -194,7 +200,7 @@ fn in_room_all(sheet: &[u8]) -> Cause
 
 // Whether the room for n vertices holds the body.
 fn fits(sheet: &[u8], n: u32) -> bool
-    requires { ⌜ Opened (now sheet) × (n < 80000) ⌝ }
+    requires { ⌜ Opened (now sheet) × (n < 4 * maxVertices) ⌝ }
     ensures { λ r. ⌜ r ≡ (leb (verticesIn (now (sheet .entry))) n && leb (facesIn (now (sheet .entry))) (2 * n)) ⌝ }
 {
     if n < sheet_readers::vertices(sheet) {
@@ -203,14 +209,14 @@ fn fits(sheet: &[u8], n: u32) -> bool
     sheet_readers::faces(sheet) <= 2 * n
 }
 
-// The causes after 16, 1 and 2, in the room for n vertices or, where that does not hold the body, in the next larger one. It calls itself, and so the compiler
-// keeps the rooms apart; in one function every body would pay for the stack of the largest.
-fn from_room(sheet: &[u8], n: u32) -> Cause
-    requires { ⌜ Opened (now sheet) × (0 < n) × (n < 80000) ⌝ }
-    ensures { λ r. ⌜ r ≡ bodyCause (now (sheet .entry)) ⌝ }
+// The stages after the opening, in the room for n vertices or, where that does not hold the body, in the next larger one. It calls itself for the next size so that each
+// room keeps a stack frame of its own, as in mesh_check; in one frame every body would touch the pages of the largest.
+fn from_room(sheet: &[u8], n: u32) -> Outcome
+    requires { ⌜ Opened (now sheet) × (0 < n) × (n < 4 * maxVertices) ⌝ }
+    ensures { λ r. ⌜ r ≡ laterOutcome (now (sheet .entry)) ⌝ }
 {
     if !fits(sheet, n) {
-        return from_room(sheet, 4 * n);
+        return from_room(sheet, GROWTH * n);
     }
     match n {
         40 => in_room_40(sheet),
@@ -222,10 +228,10 @@ fn from_room(sheet: &[u8], n: u32) -> Cause
     }
 }
 
-// The same, in the smallest room that holds the body.
-pub(crate) fn body_cause(sheet: &[u8]) -> Cause
+// The stages after the opening, in the smallest room that holds the body.
+pub(crate) fn in_smallest_room(sheet: &[u8]) -> Outcome
     requires { ⌜ Opened (now sheet) ⌝ }
-    ensures { λ r. ⌜ r ≡ bodyCause (now (sheet .entry)) ⌝ }
+    ensures { λ r. ⌜ r ≡ laterOutcome (now (sheet .entry)) ⌝ }
 {
-    from_room(sheet, 40)
+    from_room(sheet, SMALLEST)
 }

@@ -1,4 +1,2 @@
--- What is known of a sheet's lists, stage by stage; `Known` is for the crates above too.
-pub mod Known
-mod Limits
+-- Laws that the proofs of the functions share.
 mod Solid

@@ -1,4 +1,3 @@
--- What the scans read and compare.
-mod Compare
-mod Mates
-mod Pairs
+-- What is known of a sheet's lists once they are read; `Lists` is for the crates above too.
+pub mod Lists
+mod Limits

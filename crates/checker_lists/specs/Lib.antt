@@ -1,3 +1,2 @@
--- What the scan of the mates tests at a time.
-pub mod Reverses
-pub mod Paired
+-- The checker's causes in stages.
+pub mod Stages

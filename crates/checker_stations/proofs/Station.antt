@@ -16,9 +16,9 @@ use Rattle.sheet_rows.specs.declared.Row.{Row}
 use Rattle.sheet.specs.Input.{rowAt}
 use Rattle.sheet.specs.Writer.{stationCause}
 use Rattle.sheet.specs.Checker.{kindIn, stationsIn, stationsStart, rowStart, vectorIn, parse, sameNumbers, wrongRow, checkStation}
-use Rattle.sheet.specs.Reading.{kind-read}
+use Rattle.sheet_laws.specs.Reading.{kind-read}
 use Rattle.checker_scans.proofs.Read.{vertex-read}
-use Rattle.checker_body.specs.Stages.{Ready}
+use Rattle.checker_lists.specs.Stages.{Ready}
 
 module _ (b : List ℕ) (i : ℕ) where
   pub row-is : (v : List Float) (f : List ℕ) (m a p : Vector) → Ready b v f → m ≡ parse b .magnetisation → a ≡ parse b .ambient → i < stationsIn b

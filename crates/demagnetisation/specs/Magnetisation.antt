@@ -1,6 +1,6 @@
--- The magnetisation of a body of isotropic susceptibility χ and remanence Mr in the field H₀ = F/μ₀, given the rows of its demagnetising tensor N: M = (I + χN)⁻¹(χH₀ + Mr)
--- (Clark, Saul & Emerson 1986, Eq. 38; Takahashi & Oliveira 2017, Eqs. 49–50), by Gaussian elimination; and the Königsberger ratio Q = |Mr|/(χ|H₀|) of remanent to induced
--- magnetisation (Koenigsberger 1938). With the roundings in the order of the Rust. Definitions only.
+-- The magnetisation of a body of isotropic susceptibility χ and remanence Mr in the field H₀ = F/μ₀, given the rows of its demagnetising tensor N: M = (I +
+-- χN)⁻¹(χH₀ + Mr) (Clark, Saul & Emerson 1986, Eq. 38; Takahashi & Oliveira 2017, Eqs. 49–50), by Gaussian elimination; and the Königsberger ratio Q = |Mr|/(χ|H₀|)
+-- of remanent to induced magnetisation (Koenigsberger 1938). With the roundings in the order of the Rust. Definitions only.
 use mathlib.Core.Bool.{Bool, _&&_}
 use lib.Ieee.{Float}
 use Rattle.doubles.specs.Rounded.{_⊕_, _⊗_, _⊘_}
@@ -14,7 +14,7 @@ use Rattle.newtonian.specs.declared.Vector.{Vector}
 use Rattle.newtonian.specs.declared.Hessian.{Hessian}
 use Rattle.anomaly.specs.Limits.{bothWithinLimits, hessianWithinLimits}
 use Rattle.linalg.specs.declared.Row.{Row}
-use Rattle.linalg.specs.Gauss.{rows, gauss}
+use Rattle.linalg.specs.Gauss.{rowsOf, gauss}
 
 -- ---- the magnetisation
 
@@ -27,13 +27,13 @@ unfoldable pub magnetisationOf : Float → Vector → Vector → Hessian → Vec
 magnetisationOf χ H₀ Mr N =
     let I = diagonal 1·0 in
     gauss
-    (rows
+    (rowsOf
     (equation χ (I .x) (N .x) (H₀ .x) (Mr .x))
     (equation χ (I .y) (N .y) (H₀ .y) (Mr .y))
     (equation χ (I .z) (N .z) (H₀ .z) (Mr .z)))
 
 unfoldable pub magnetisationWithinLimits : Float → Vector → Vector → Hessian → Bool
-magnetisationWithinLimits χ H₀ Mr N = bothWithinLimits H₀ Mr && (hessianWithinLimits N && withinLimits χ)
+magnetisationWithinLimits χ H₀ Mr N = bothWithinLimits H₀ Mr && hessianWithinLimits N && withinLimits χ
 
 -- the public call, refused by 3
 unfoldable pub magnetisation : Float → Vector → Vector → Hessian → Answer Vector

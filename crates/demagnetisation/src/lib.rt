@@ -18,12 +18,7 @@ ghost use Rattle.demagnetisation.specs.Magnetisation.{equation, magnetis
 fn factor(x: f64, y: f64, z: f64) -> Integral
     ensures { λ r. ⌜ r ≡ factor x y z ⌝ }
 {
-    let w = x * y * z / 3.0;
-    let d = special_rf_rd::rd(x * x, y * y, z * z);
-    match d {
-        Integral::Refused(r) => Integral::Refused(r),
-        Integral::Value(v) => Integral::Value(w * v),
-    }
+    carlson::times_integral(x * y * z / 3.0, special_rf_rd::rd(x * x, y * y, z * z))
 }
 
 // Three factors, or the first refusal among them.
@@ -52,7 +47,7 @@ pub fn factors_of(a: f64, b: f64, c: f64) -> VectorAnswer
 fn all_positive(a: f64, b: f64, c: f64) -> bool
     ensures { λ r. ⌜ r ≡ allPositive a b c ⌝ }
 {
-    (0.0 < a) & ((0.0 < b) & (0.0 < c))
+    (0.0 < a) & (0.0 < b) & (0.0 < c)
 }
 
 // The demagnetising factors of a uniformly magnetised ellipsoid along its semi-axes a, b and c; or refused by 3,
@@ -105,7 +100,8 @@ fn magnetisation_within_limits(chi: f64, h0: Vector, remanent: Vector, n: Hessia
     ensures { λ r. ⌜ r ≡ magnetisationWithinLimits chi h0 remanent n ⌝ }
 {
     both_within_limits(h0, remanent)
-        & (anomaly::hessian_within_limits(n) & doubles::within_limits(chi))
+        & anomaly::hessian_within_limits(n)
+        & doubles::within_limits(chi)
 }
 
 // The magnetisation (A/m) of a body of susceptibility chi (SI) and remanence `remanent` (A/m) in the field h0 (A/m),

@@ -1,4 +1,5 @@
--- A double from its bit pattern: what the sign, the exponent's field and the digits say of a value that is finite and above zero, and how `odd` writes it. Assumes nothing.
+-- A double from its bit pattern: what the sign, the exponent's field and the digits say of a value that is finite and above zero, and how `odd` writes it. Assumes
+-- nothing.
 use mathlib.Core.Path.{_≡_, refl, sym, ap, _∙_, subst}
 use Prim.Native.Nat.{ℕ, zero, suc, _+_, _-_, _*_, _/_, _%_, _^_, _≤_, _<_}
 use native.Mathlib.Nat.{lt-of-lt-of-le, lt-irrefl, zero-lt-suc, mul-one, mul-left-comm, div-one, pow-succ', div-div-eq-div-mul, mod-eq-of-lt, le-antisymm, lt-of-not-le, not-le-of-lt, div-lt-iff-lt-mul, pow-suc}

@@ -1,8 +1,8 @@
 -- Laws of doubles, for the crates above.
 pub mod Signs
-pub mod Nonneg
+pub mod FiniteUnsigned
 pub mod Value
-pub mod Within
+pub mod Between
 pub mod Exponent
 pub mod Fields
 pub mod Exactly

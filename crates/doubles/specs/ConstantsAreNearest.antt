@@ -1,4 +1,4 @@
--- Each constant with a decimal value is the double nearest that value. Assumes nothing.
+-- States: `constants-are-nearest`: each constant with a decimal value is the double nearest that value. Assumes nothing.
 use mathlib.Core.Path.{_≡_, refl}
 use mathlib.Core.List.{[], _∷_}
 use mathlib.Core.Bool.{false}

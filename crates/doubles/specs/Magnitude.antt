@@ -16,12 +16,13 @@ negative nan = false
 negative (inf s) = s
 negative (fin s m e) = s
 
--- finite, and not negative: -0 is left out
-abbrev pub nonneg : Float → Bool
-nonneg nan = false
-nonneg (inf s) = false
-nonneg (fin true m e) = false
-nonneg (fin false m e) = true
+-- finite, and its sign bit is clear: +0 is in, -0 is not. Beside it stand lib.Ieee.Positive's `positive`, finite and above zero, and in `special_laws` `unsigned`,
+-- which has NaN and +∞ too, and `notBelowZero`, which has -0 too.
+abbrev pub finiteUnsigned : Float → Bool
+finiteUnsigned nan = false
+finiteUnsigned (inf s) = false
+finiteUnsigned (fin true m e) = false
+finiteUnsigned (fin false m e) = true
 
 -- the larger of x and y, which passes over a NaN; x where they are equal, as +0 and -0 are
 unfoldable pub max : Float → Float → Float

@@ -2,25 +2,28 @@
 -- Assumes nothing.
 use mathlib.Core.Path.{_≡_, refl, _∙_}
 use mathlib.Core.Logic.{_⊎_, inl, inr, ⊎-elim}
+use mathlib.Core.Bool.{_&&_}
 use Prim.Native.Nat.{ℕ, zero, suc, _<_, _≤_}
 use native.Mathlib.Nat.{le-of-suc-le-suc, not-suc-le-zero, eq-or-lt-of-le}
 use native.Mathlib.Omega.{arith}
 use borrow.Author.Tests.{le-leb, lt-leb}
+use lib.Dec.{leb}
 use lib.ListN.{length, getD, length-set}
 use lib.Seq.{getD-set-same, getD-set-other}
 use lib.Ieee.{Float}
+use Rattle.refusals.specs.Causes.{unless}
 use Rattle.refusals.specs.declared.Cause.{Cause}
 use Rattle.refusals.specs.declared.Cause.the-variants.{None, Refused}
 use Rattle.refusals.specs.declared.Refusal.the-variants.{OutsideDomain}
-use Rattle.legendre.specs.GaussLegendre.{maxOrder, node, weight, zeros, row, ruleUnless, orderCause, gaussLegendre}
+use Rattle.legendre.specs.GaussLegendre.{maxOrder, node, weight, zeros, padded, ruleOr, gaussLegendre}
 
 -- ---- accepted or refused
 
-pub accepted : (n : ℕ) → 1 ≤ n → n ≤ maxOrder → gaussLegendre n ≡ ruleUnless None n
+pub accepted : (n : ℕ) → 1 ≤ n → n ≤ maxOrder → gaussLegendre n ≡ ruleOr None n
 unfolding gaussLegendre
 accepted n p h = simp (le-leb 1 n p, le-leb n maxOrder h)
 
-pub refused : (n : ℕ) → (n < 1) ⊎ (maxOrder < n) → gaussLegendre n ≡ ruleUnless (Refused OutsideDomain) n
+pub refused : (n : ℕ) → (n < 1) ⊎ (maxOrder < n) → gaussLegendre n ≡ ruleOr (Refused OutsideDomain) n
 unfolding gaussLegendre
 refused n (inl h) = simp (lt-leb 1 n h)
 refused n (inr h) = let p : 1 ≤ n = omega arith in simp (le-leb 1 n p, lt-leb n maxOrder h)
@@ -30,37 +33,37 @@ count-is n p h = rw (accepted n p h)
 
 -- ---- the lengths, whatever the order
 
-length-row : (n : ℕ) (f : ℕ → Float) → length (row n f) ≡ maxOrder
-unfolding row zeros
-length-row zero f = refl
-length-row (suc n) f = length-set (row n f) n (f n) ∙ length-row n f
+length-padded : (n : ℕ) (f : ℕ → Float) → length (padded n f) ≡ maxOrder
+unfolding padded zeros
+length-padded zero f = refl
+length-padded (suc n) f = length-set (padded n f) n (f n) ∙ length-padded n f
 
-lengths : (c : Cause) (n : ℕ) → (length (ruleUnless c n .nodes) ≡ maxOrder) × (length (ruleUnless c n .weights) ≡ maxOrder)
+lengths : (c : Cause) (n : ℕ) → (length (ruleOr c n .nodes) ≡ maxOrder) × (length (ruleOr c n .weights) ≡ maxOrder)
 unfolding zeros
-lengths None n = (length-row n (node n), length-row n (weight n))
+lengths None n = (length-padded n (node n), length-padded n (weight n))
 lengths (Refused r) n = (refl, refl)
 
 pub length-nodes : (n : ℕ) → length (gaussLegendre n .nodes) ≡ maxOrder
 unfolding gaussLegendre
-length-nodes n = lengths (orderCause n) n .0
+length-nodes n = lengths (unless (leb 1 n && leb n maxOrder) OutsideDomain) n .0
 
 pub length-weights : (n : ℕ) → length (gaussLegendre n .weights) ≡ maxOrder
 unfolding gaussLegendre
-length-weights n = lengths (orderCause n) n .1
+length-weights n = lengths (unless (leb 1 n && leb n maxOrder) OutsideDomain) n .1
 
 -- ---- the elements below the count
 
-row-at : (n : ℕ) (f : ℕ → Float) (d : Float) → n ≤ maxOrder → (i : ℕ) → i < n → getD (row n f) i d ≡ f i
-unfolding row
-row-at zero f d b i h = absurd (not-suc-le-zero h)
-row-at (suc n) f d b i h =
-    ⊎-elim (λ (e : i ≡ n). rw e (getD-set-same (row n f) n (f n) d (omega (arith, length-row n f))))
-    (λ (l : i < n). getD-set-other (row n f) n i (f n) d (λ (e : i ≡ n). omega arith) ∙ row-at n f d (omega arith) i l)
+padded-at : (n : ℕ) (f : ℕ → Float) (d : Float) → n ≤ maxOrder → (i : ℕ) → i < n → getD (padded n f) i d ≡ f i
+unfolding padded
+padded-at zero f d b i h = absurd (not-suc-le-zero h)
+padded-at (suc n) f d b i h =
+    ⊎-elim (λ (e : i ≡ n). rw e (getD-set-same (padded n f) n (f n) d (omega (arith, length-padded n f))))
+    (λ (l : i < n). getD-set-other (padded n f) n i (f n) d (λ (e : i ≡ n). omega arith) ∙ padded-at n f d (omega arith) i l)
     (eq-or-lt-of-le (le-of-suc-le-suc h))
 
 module _ (n i : ℕ) (d : Float) (h : n ≤ maxOrder) (l : i < n) where
   pub node-at : getD (gaussLegendre n .nodes) i d ≡ node n i
-  node-at = rw (accepted n (omega arith) h) (row-at n (node n) d h i l)
+  node-at = rw (accepted n (omega arith) h) (padded-at n (node n) d h i l)
 
   pub weight-at : getD (gaussLegendre n .weights) i d ≡ weight n i
-  weight-at = rw (accepted n (omega arith) h) (row-at n (weight n) d h i l)
+  weight-at = rw (accepted n (omega arith) h) (padded-at n (weight n) d h i l)

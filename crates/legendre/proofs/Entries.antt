@@ -1,4 +1,5 @@
--- The entries of the table as the code reads them: how many there are, where an order's stand, that each can be read as a double, and one more of them in an array. Assumes nothing.
+-- The entries of the table as the code reads them: how many there are, where an order's stand, that each can be read as a double, and one more of them in an array.
+-- Assumes nothing.
 use mathlib.Core.Path.{_≡_, refl}
 use mathlib.Core.Bool.{not}
 use mathlib.Core.List.{List}
@@ -9,8 +10,8 @@ use lib.Dec.{T}
 use lib.ListN.{length, getD, set}
 use lib.Ieee.{Float, binary64, ofBits, nanBits}
 use Rattle.legendre.specs.Table.{table}
-use Rattle.legendre.specs.GaussLegendre.{maxOrder, entry, row}
-use Rattle.legendre.specs.TableIsGaussLegendre.{no-nan}
+use Rattle.legendre.specs.GaussLegendre.{maxOrder, entry, padded}
+use Rattle.legendre.specs.TableIsGaussLegendre.{entries-not-nan}
 
 pub entries : length table ≡ maxOrder * (maxOrder + 1)
 unfolding table
@@ -21,10 +22,10 @@ square n p h = (le-mul-of-pos-right n p, rw entries (add-le-add (mul-le-mul {n�
 
 module _ (t : List ℕ) (same : t ≡ table) where
   pub readable : (j : ℕ) → j < length table → T (not (nanBits binary64 (getD t j 0)))
-  readable j h = rw same (no-nan j h)
+  readable j h = rw same (entries-not-nan j h)
 
-  pub row-more :
-      (start i : ℕ) (r : List Float) → r ≡ row i (λ j. entry (start + j))
-      → set r i (ofBits binary64 (getD t (start + i) 0)) ≡ row (i + 1) (λ j. entry (start + j))
-  unfolding row entry
-  row-more start i r e = rw (add-one, same, e)
+  pub padded-more :
+      (start i : ℕ) (r : List Float) → r ≡ padded i (λ j. entry (start + j))
+      → set r i (ofBits binary64 (getD t (start + i) 0)) ≡ padded (i + 1) (λ j. entry (start + j))
+  unfolding padded entry
+  padded-more start i r e = rw (add-one, same, e)

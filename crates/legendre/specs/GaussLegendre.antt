@@ -32,18 +32,15 @@ weight n i = entry (n * n + i)
 unfoldable pub zeros : List Float
 zeros = replicate maxOrder 0·0
 
-unfoldable pub row : ℕ → (ℕ → Float) → List Float
-row zero f = zeros
-row (suc n) f = set (row n f) n (f n)
+unfoldable pub padded : ℕ → (ℕ → Float) → List Float
+padded zero f = zeros
+padded (suc n) f = set (padded n f) n (f n)
 
--- the rule of the order n where nothing is refused; under a refusal no nodes and no weights
-abbrev pub ruleUnless : Cause → ℕ → Rule
-ruleUnless None n = record { cause = None; count = n; nodes = row n (node n); weights = row n (weight n) }
-ruleUnless (Refused r) n = record { cause = Refused r; count = 0; nodes = zeros; weights = zeros }
+-- the rule of the order n, or the cause of its refusal, with no nodes and no weights
+abbrev pub ruleOr : Cause → ℕ → Rule
+ruleOr None n = record { cause = None; count = n; nodes = padded n (node n); weights = padded n (weight n) }
+ruleOr (Refused r) n = record { cause = Refused r; count = 0; nodes = zeros; weights = zeros }
 
--- document 01's domain of a rule's order
-abbrev pub orderCause : ℕ → Cause
-orderCause n = unless (leb 1 n && leb n maxOrder) OutsideDomain
-
+-- the public call, refused by 14 unless 1 ≤ n ≤ 16
 unfoldable pub gaussLegendre : ℕ → Rule
-gaussLegendre n = ruleUnless (orderCause n) n
+gaussLegendre n = ruleOr (unless (leb 1 n && leb n maxOrder) OutsideDomain) n

@@ -72,5 +72,5 @@ pub record IsGaussLegendre (n : ℕ) : Type 0 where
   pub exactWeights : (i : ℕ) → i < n → Exactly (weight n i) (scaledWeight n i)
   pub ascending : (i : ℕ) → i + 1 < n → scaledNode n i <ℤ scaledNode n (i + 1)
   pub mirrored : (i : ℕ) → i < n → scaledNode n (n - 1 - i) ≡ negℤ (scaledNode n i)
-  pub positive : (i : ℕ) → i < n → pos 0 <ℤ scaledWeight n i
+  pub positiveWeights : (i : ℕ) → i < n → pos 0 <ℤ scaledWeight n i
   pub moments : (k : ℕ) → k < 2 * n → Within tolerance (moment n k) (integral k)

@@ -1,5 +1,6 @@
--- Each order of the table, from 1 to 16, is a Gauss-Legendre rule: one test of the whole table, which antt computes, and the lemma that turns it into `IsGaussLegendre`.
--- Assumes nothing.
+-- States: `table-is-gauss-legendre`: each order of the table, from 1 to 16, is a Gauss-Legendre rule (`IsGaussLegendre`), by one test of the whole table, which antt
+-- computes, and the lemma that turns it into the rule's facts; `denominators`: the fractions that it compares have denominators above 0; `entries-not-nan`: no entry
+-- is a NaN. Assumes nothing.
 use mathlib.Core.Path.{_≡_, subst}
 use mathlib.Core.Bool.{Bool, true, false, not, cond}
 use mathlib.Core.List.{List, [], _∷_}
@@ -15,7 +16,7 @@ use lib.Ieee.{binary64, ofBits, ofFields, odd, nanBits}
 use Rattle.legendre.specs.Table.{table}
 use Rattle.legendre.specs.GaussLegendre.{maxOrder, entry, node, weight}
 use Rattle.legendre.specs.IsGaussLegendre.{scale, scaled, scaledNode, scaledWeight, Fraction, tolerance, sumOf, moment, integral, IsGaussLegendre}
-use Rattle.legendre.specs.Tests.{each, each-at, all, all-at, exactly, exactly-is, equal, equal-is, within, within-is}
+use Rattle.legendre.specs.Tests.{each, each-at, all, all-at, exactly, exactly-is, equal, equal-is, isWithin, within-is}
 
 -- ---- the fields of `IsGaussLegendre n`, as tests
 
@@ -25,22 +26,22 @@ exactNode n i = exactly (node n i) (scaledNode n i)
 exactWeight : ℕ → ℕ → Bool
 exactWeight n i = exactly (weight n i) (scaledWeight n i)
 
-ascends : ℕ → ℕ → Bool
-ascends n i = ltZ (scaledNode n i) (scaledNode n (i + 1))
+nodesAscend : ℕ → ℕ → Bool
+nodesAscend n i = ltZ (scaledNode n i) (scaledNode n (i + 1))
 
-mirrors : ℕ → ℕ → Bool
-mirrors n i = equal (scaledNode n (n - 1 - i)) (negℤ (scaledNode n i))
+nodesMirror : ℕ → ℕ → Bool
+nodesMirror n i = equal (scaledNode n (n - 1 - i)) (negℤ (scaledNode n i))
 
-aboveZero : ℕ → ℕ → Bool
-aboveZero n i = ltZ (pos 0) (scaledWeight n i)
+weightsAboveZero : ℕ → ℕ → Bool
+weightsAboveZero n i = ltZ (pos 0) (scaledWeight n i)
 
 integrates : ℕ → ℕ → Bool
-integrates n k = within tolerance (moment n k) (integral k)
+integrates n k = isWithin tolerance (moment n k) (integral k)
 
 tests : ℕ → List Bool
-unfolding exactNode exactWeight ascends mirrors aboveZero integrates
+unfolding exactNode exactWeight nodesAscend nodesMirror weightsAboveZero integrates
 tests n =
-    each n (exactNode n) ∷ each n (exactWeight n) ∷ each (n - 1) (ascends n) ∷ each n (mirrors n) ∷ each n (aboveZero n) ∷
+    each n (exactNode n) ∷ each n (exactWeight n) ∷ each (n - 1) (nodesAscend n) ∷ each n (nodesMirror n) ∷ each n (weightsAboveZero n) ∷
     each (2 * n) (integrates n) ∷ []
 
 -- the orders are counted from 1
@@ -49,21 +50,21 @@ unfolding tests
 passes m = all (tests (m + 1))
 
 computed : T (each maxOrder passes)
-unfolding passes tests exactNode exactWeight ascends mirrors aboveZero integrates exactly equal within table entry node weight scaled scaledNode scaledWeight sumOf moment integral ofBits ofFields odd trailingZeros pow one
+unfolding passes tests exactNode exactWeight nodesAscend nodesMirror weightsAboveZero integrates exactly equal isWithin table entry node weight scaled scaledNode scaledWeight sumOf moment integral ofBits ofFields odd trailingZeros pow one
 computed = tt
 
 -- ---- the theorem
 
 from-tests : (n : ℕ) → T (all (tests n)) → IsGaussLegendre n
-unfolding tests exactNode exactWeight ascends mirrors aboveZero integrates
+unfolding tests exactNode exactWeight nodesAscend nodesMirror weightsAboveZero integrates
 from-tests n h =
     let t : (j : ℕ) → T (getD (tests n) j true) = all-at (tests n) h in
     record {
       exactNodes = λ i l. exactly-is (node n i) (scaledNode n i) (each-at n (exactNode n) (t 0) i l);
       exactWeights = λ i l. exactly-is (weight n i) (scaledWeight n i) (each-at n (exactWeight n) (t 1) i l);
-      ascending = λ i l. ltZ-yes (each-at (n - 1) (ascends n) (t 2) i (omega arith));
-      mirrored = λ i l. equal-is (scaledNode n (n - 1 - i)) (negℤ (scaledNode n i)) (each-at n (mirrors n) (t 3) i l);
-      positive = λ i l. ltZ-yes (each-at n (aboveZero n) (t 4) i l);
+      ascending = λ i l. ltZ-yes (each-at (n - 1) (nodesAscend n) (t 2) i (omega arith));
+      mirrored = λ i l. equal-is (scaledNode n (n - 1 - i)) (negℤ (scaledNode n i)) (each-at n (nodesMirror n) (t 3) i l);
+      positiveWeights = λ i l. ltZ-yes (each-at n (weightsAboveZero n) (t 4) i l);
       moments = λ k l. within-is tolerance (moment n k) (integral k) (each-at (2 * n) (integrates n) (t 5) k l);
     }
 
@@ -92,6 +93,6 @@ computed-real : T (each (length table) real)
 unfolding real table nanBits
 computed-real = tt
 
-pub no-nan : (j : ℕ) → j < length table → T (not (nanBits binary64 (getD table j 0)))
+pub entries-not-nan : (j : ℕ) → j < length table → T (not (nanBits binary64 (getD table j 0)))
 unfolding real
-no-nan = each-at (length table) real computed-real
+entries-not-nan = each-at (length table) real computed-real

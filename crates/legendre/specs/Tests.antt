@@ -1,4 +1,5 @@
--- Tests that antt computes, and the facts that they show: at each number below a bound, of a list, of a double's exact value, of whole numbers, of fractions. Assumes nothing.
+-- Tests that antt computes, each with the fact that it shows, for `TableIsGaussLegendre`. States: `each-at`, at each number below a bound; `all-at`, of a list;
+-- `exactly-is`, of a double's exact value; `equal-is`, of whole numbers; `within-is`, of fractions. Assumes nothing.
 use mathlib.Core.Path.{_≡_, refl, ap, subst, sym}
 use mathlib.Core.Bool.{Bool, true, false, not, _&&_, Bool·beq}
 use mathlib.Core.Logic.{⊎-elim}
@@ -68,11 +69,11 @@ equal-is (pos a) (negsuc b) t = absurd t
 equal-is (negsuc a) (pos b) t = absurd t
 equal-is (negsuc a) (negsuc b) t = ap negsuc (eqb→eq a b t)
 
-unfoldable pub within : Fraction → Fraction → Fraction → Bool
-within t p q =
+unfoldable pub isWithin : Fraction → Fraction → Fraction → Bool
+isWithin t p q =
     leZ (pos (natAbs (p .numerator *ℤ pos (q .denominator) -ℤ q .numerator *ℤ pos (p .denominator)) * t .denominator))
     (t .numerator *ℤ pos (p .denominator * q .denominator))
 
-pub within-is : (t p q : Fraction) → T (within t p q) → Within t p q
-unfolding within
+pub within-is : (t p q : Fraction) → T (isWithin t p q) → Within t p q
+unfolding isWithin
 within-is t p q h = leZ-yes h

@@ -8,7 +8,7 @@ ghost use mathlib.Core.Path.{_≡_};
 ghost use Prim.Native.Nat.{_+_, _≤_};
 ghost use lib.ListN.{length};
 ghost use Rattle.legendre.specs.Table.{table};
-ghost use Rattle.legendre.specs.GaussLegendre.{maxOrder, entry, row, ruleUnless, gaussLegendre};
+ghost use Rattle.legendre.specs.GaussLegendre.{maxOrder, entry, padded, ruleOr, gaussLegendre};
 
 pub const MAX_ORDER: usize = 16;
 
@@ -25,9 +25,9 @@ pub struct Rule {
 }
 
 // The n entries of the table from start on, with zeros after them.
-fn row(t: &[u64; ENTRIES], start: usize, n: usize) -> [f64; MAX_ORDER]
+fn padded(t: &[u64; ENTRIES], start: usize, n: usize) -> [f64; MAX_ORDER]
     requires { ⌜ (now t ≡ table) × (n ≤ maxOrder) × (start + n ≤ length table) ⌝ }
-    ensures { λ r. ⌜ r ≡ row n (λ i. entry (start + i)) ⌝ }
+    ensures { λ r. ⌜ r ≡ padded n (λ i. entry (start + i)) ⌝ }
 {
     let mut r = [0.0; MAX_ORDER];
     let mut i = 0;
@@ -39,7 +39,7 @@ fn row(t: &[u64; ENTRIES], start: usize, n: usize) -> [f64; MAX_ORDER]
 }
 
 fn refused() -> Rule
-    ensures { λ r. ⌜ r ≡ ruleUnless (Cause.Refused Refusal.OutsideDomain) 0 ⌝ }
+    ensures { λ r. ⌜ r ≡ ruleOr (Cause.Refused Refusal.OutsideDomain) 0 ⌝ }
 {
     Rule {
         cause: Cause::Refused(Refusal::OutsideDomain),
@@ -62,8 +62,8 @@ pub fn gauss_legendre(order: u32) -> Rule
     }
     // A constant array is built anew at each use, so it is used once.
     let t = TABLE;
-    let nodes = row(&t, n * n - n, n);
-    let weights = row(&t, n * n, n);
+    let nodes = padded(&t, n * n - n, n);
+    let weights = padded(&t, n * n, n);
     Rule {
         cause: Cause::None,
         count: n,

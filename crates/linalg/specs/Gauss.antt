@@ -1,5 +1,5 @@
--- Three linear equations by Gaussian elimination with partial pivoting: the pivot of a column is the largest |entry| at or below the diagonal, its row is exchanged with the
--- diagonal's, and multiples of it are taken from the rows below. With the roundings in the order of the Rust. Definitions only.
+-- Three linear equations by Gaussian elimination with partial pivoting: the pivot of a column is the largest |entry| at or below the diagonal, its row is exchanged
+-- with the diagonal's, and multiples of it are taken from the rows below. With the roundings in the order of the Rust. Definitions only.
 use mathlib.Core.Bool.{Bool, _||_, cond}
 use lib.Ieee.{Float, isNan, le}
 use Rattle.doubles.specs.Rounded.{_⊕_, _⊖_, _⊗_, _⊘_}
@@ -9,8 +9,8 @@ use Rattle.newtonian.specs.declared.Vector.{Vector}
 use Rattle.linalg.specs.declared.Row.{Row}
 use Rattle.linalg.specs.declared.Rows.{Rows}
 
-unfoldable pub rows : Row → Row → Row → Rows
-rows p q r = record { first = p; second = q; third = r }
+unfoldable pub rowsOf : Row → Row → Row → Rows
+rowsOf p q r = record { first = p; second = q; third = r }
 
 -- ---- the pivot
 
@@ -25,12 +25,12 @@ pivotX s =
     let q = s .second in
     let r = s .third in
     cond (takes (p .x) (q .x))
-    (cond (takes (q .x) (r .x)) (rows r q p) (rows q p r))
-    (cond (takes (p .x) (r .x)) (rows r q p) s)
+    (cond (takes (q .x) (r .x)) (rowsOf r q p) (rowsOf q p r))
+    (cond (takes (p .x) (r .x)) (rowsOf r q p) s)
 
 -- the pivot's row of column y second
 unfoldable pub pivotY : Rows → Rows
-pivotY s = cond (takes (s .second .y) (s .third .y)) (rows (s .first) (s .third) (s .second)) s
+pivotY s = cond (takes (s .second .y) (s .third .y)) (rowsOf (s .first) (s .third) (s .second)) s
 
 -- ---- elimination
 
@@ -46,10 +46,10 @@ withoutY q p =
     record { x = q .x; y = q .y ⊖ f ⊗ p .y; z = q .z ⊖ f ⊗ p .z; right = q .right ⊖ f ⊗ p .right }
 
 unfoldable pub eliminateX : Rows → Rows
-eliminateX s = rows (s .first) (withoutX (s .second) (s .first)) (withoutX (s .third) (s .first))
+eliminateX s = rowsOf (s .first) (withoutX (s .second) (s .first)) (withoutX (s .third) (s .first))
 
 unfoldable pub eliminateY : Rows → Rows
-eliminateY s = rows (s .first) (s .second) (withoutY (s .third) (s .second))
+eliminateY s = rowsOf (s .first) (s .second) (withoutY (s .third) (s .second))
 
 -- ---- back substitution: from the last row up, the right side less the sum of the terms known, over the diagonal. Each sum starts at -0, also the empty one.
 unfoldable pub backSubstituted : Rows → Vector

@@ -1,7 +1,7 @@
 // Gaussian elimination with partial pivoting, for three rows.
 use newtonian::Vector;
 ghost use mathlib.Core.Path.{_≡_};
-ghost use Rattle.linalg.specs.Gauss.{rows, takes, pivotX, pivotY, withoutX, withoutY, eliminateX, eliminateY, backSubstituted, gauss};
+ghost use Rattle.linalg.specs.Gauss.{rowsOf, takes, pivotX, pivotY, withoutX, withoutY, eliminateX, eliminateY, backSubstituted, gauss};
 
 // The equation whose left side has the entries x, y and z.
 pub struct Row {
@@ -18,7 +18,7 @@ pub struct Rows {
 }
 
 pub fn rows_of(p: Row, q: Row, r: Row) -> Rows
-    ensures { λ s. ⌜ s ≡ rows p q r ⌝ }
+    ensures { λ s. ⌜ s ≡ rowsOf p q r ⌝ }
 {
     Rows {
         first: p,

@@ -1,4 +1,5 @@
--- Laws of `count`, `Perm` and `Below`: an entry is what counts at least once. Assumes nothing.
+-- Laws of `count`, `Perm` and `Below`. States: `entry-counts`, `counts-entry`: an entry is what counts at least once; `perm-entry`, `perm-below`: permutations have the same entries.
+-- Assumes nothing.
 use mathlib.Core.Path.{_≡_, refl, sym, ap, subst}
 use mathlib.Core.List.{List, [], _∷_}
 use mathlib.Core.Logic.{⊎-elim}

@@ -1,4 +1,4 @@
--- Lists that hold g 0, g 1, ..: a loop that writes them, one entry a turn. Assumes nothing.
+-- Lists of g 0, g 1, .. States: `filled-more`: a turn of the loop that writes one; `filled-all`: what it has written at the end is `map g`. Assumes nothing.
 use mathlib.Core.Path.{_≡_, sym, ap, _∙_}
 use mathlib.Core.List.{List, map}
 use mathlib.Core.Logic.{⊎-elim}
@@ -10,11 +10,6 @@ use lib.Seq.{ext-getD, getD-set-same, getD-set-other}
 use Rattle.lists.specs.Sort.{range}
 use Rattle.lists.proofs.Numbers.{same?}
 use Rattle.lists.proofs.Ranges.{length-range}
-
--- w has n entries, g 0, g 1, .., g (n - 1)
-pub record Holds (g : ℕ → ℕ) (n : ℕ) (w : List ℕ) : Type 0 where
-  pub size : length w ≡ n
-  pub at : (x : ℕ) → x < n → getD w x 0 ≡ g x
 
 pub filled-more : (g : ℕ → ℕ) (w : List ℕ) (i a : ℕ) → i < length w → a ≡ g i → ((k : ℕ) → k < i → getD w k 0 ≡ g k)
     → (k : ℕ) → k < i + 1 → getD (set w i a) k 0 ≡ g k

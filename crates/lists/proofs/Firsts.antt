@@ -1,4 +1,4 @@
--- Laws of `first`: it gives the first number that passes, and there is one such number only. Assumes nothing.
+-- Laws of `first`. States: `first-is`: it gives the first number that passes; `first-unique`: there is one such number only. Assumes nothing.
 use mathlib.Core.Path.{_≡_, refl, sym, ap, _∙_}
 use mathlib.Core.Bool.{Bool, true, false, cond}
 use mathlib.Core.Logic.{_⊎_, inl, inr, ⊎-elim}

@@ -4,9 +4,8 @@ pub mod Counts
 pub mod Tallies
 pub mod Sorting
 pub mod Ranges
-pub mod Totals
+pub mod PartialSums
 pub mod Pigeonhole
 pub mod Firsts
-pub mod Searching
 pub mod Filling
 pub mod Counting

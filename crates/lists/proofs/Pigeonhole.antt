@@ -1,4 +1,4 @@
--- The pigeonhole: n numbers below n, no two of them equal, are a permutation of 0, 1, .., n - 1. Assumes nothing.
+-- States: `pigeonhole`: n numbers below n, no two of them equal, are a permutation of 0, 1, .., n - 1. Assumes nothing.
 use mathlib.Core.Path.{_≡_, refl, sym, ap, _∙_}
 use mathlib.Core.List.{List, [], _∷_}
 use mathlib.Core.Logic.{⊎-elim}
@@ -7,42 +7,42 @@ use native.Mathlib.Nat.{not-suc-le-zero}
 use native.Mathlib.Omega.{arith}
 use lib.ListN.{length, getD}
 use lib.Dec.{eqb}
-use Rattle.lists.specs.Count.{one, count, Perm, Below}
+use Rattle.lists.specs.Count.{one, count, partialSum, Perm, Below}
 use Rattle.lists.specs.Sort.{range}
 use Rattle.lists.proofs.Numbers.{same?, below?}
 use Rattle.lists.proofs.Counts.{one-same, one-other, counts-entry}
-use Rattle.lists.proofs.Totals.{total, total-add, total-zero}
+use Rattle.lists.proofs.PartialSums.{partial-sum-add, partial-sum-zero}
 use Rattle.lists.proofs.Ranges.{range-one, range-past}
 
-total-none : (y n : ℕ) → n ≤ y → total (λ x. one (eqb x y)) n ≡ 0
-total-none y zero l = refl
-total-none y (suc n) l = omega (arith, one-other n y (omega arith), total-none y n (omega arith))
+partial-sum-none : (y n : ℕ) → n ≤ y → partialSum (λ x. one (eqb x y)) n ≡ 0
+partial-sum-none y zero l = refl
+partial-sum-none y (suc n) l = omega (arith, one-other n y (omega arith), partial-sum-none y n (omega arith))
 
-total-hit : (y n : ℕ) → y < n → total (λ x. one (eqb x y)) n ≡ 1
-total-hit y zero l = absurd (not-suc-le-zero l)
-total-hit y (suc n) l =
-    ⊎-elim (λ e. omega (arith, one-same n y e, total-none y n (omega arith))) (λ e. omega (arith, one-other n y e, total-hit y n (omega arith))) (same? n y)
+partial-sum-hit : (y n : ℕ) → y < n → partialSum (λ x. one (eqb x y)) n ≡ 1
+partial-sum-hit y zero l = absurd (not-suc-le-zero l)
+partial-sum-hit y (suc n) l =
+    ⊎-elim (λ e. omega (arith, one-same n y e, partial-sum-none y n (omega arith))) (λ e. omega (arith, one-other n y e, partial-sum-hit y n (omega arith))) (same? n y)
 
 -- each entry is counted once
-total-count : (l : List ℕ) (n : ℕ) → Below l n → total (λ x. count x l) n ≡ length l
-total-count [] n h = total-zero n
-total-count (y ∷ l) n h =
+partial-sum-count : (l : List ℕ) (n : ℕ) → Below l n → partialSum (λ x. count x l) n ≡ length l
+partial-sum-count [] n h = partial-sum-zero n
+partial-sum-count (y ∷ l) n h =
     omega (
       arith,
-      total-add (λ x. one (eqb x y)) (λ x. count x l) n,
-      total-hit y n (h 0 (omega arith)),
-      total-count l n (λ i g. h (suc i) (suc-le-suc g)),
+      partial-sum-add (λ x. one (eqb x y)) (λ x. count x l) n,
+      partial-sum-hit y n (h 0 (omega arith)),
+      partial-sum-count l n (λ i g. h (suc i) (suc-le-suc g)),
     )
 
 -- n numbers of at most 1 that add up to n are each 1
-total-le : (g : ℕ → ℕ) (n : ℕ) → ((x : ℕ) → g x ≤ 1) → total g n ≤ n
-total-le g zero h = zero-le
-total-le g (suc n) h = omega (arith, h n, total-le g n h)
+partial-sum-le : (g : ℕ → ℕ) (n : ℕ) → ((x : ℕ) → g x ≤ 1) → partialSum g n ≤ n
+partial-sum-le g zero h = zero-le
+partial-sum-le g (suc n) h = omega (arith, h n, partial-sum-le g n h)
 
-total-full : (g : ℕ → ℕ) (n : ℕ) → ((x : ℕ) → g x ≤ 1) → total g n ≡ n → (x : ℕ) → x < n → g x ≡ 1
-total-full g zero h e x l = absurd (not-suc-le-zero l)
-total-full g (suc n) h e x l =
-    ⊎-elim (λ z. omega (arith, ap g z, h n, total-le g n h)) (λ z. total-full g n h (omega (arith, h n, total-le g n h)) x (omega arith)) (same? x n)
+partial-sum-full : (g : ℕ → ℕ) (n : ℕ) → ((x : ℕ) → g x ≤ 1) → partialSum g n ≡ n → (x : ℕ) → x < n → g x ≡ 1
+partial-sum-full g zero h e x l = absurd (not-suc-le-zero l)
+partial-sum-full g (suc n) h e x l =
+    ⊎-elim (λ z. omega (arith, ap g z, h n, partial-sum-le g n h)) (λ z. partial-sum-full g n h (omega (arith, h n, partial-sum-le g n h)) x (omega arith)) (same? x n)
 
 -- entries that differ count at most once
 pub at-most-once : (l : List ℕ) → ((i j : ℕ) → i < j → j < length l → getD l i 0 ≡ getD l j 0 → ⊥) → (x : ℕ) → count x l ≤ 1
@@ -65,7 +65,7 @@ pub pigeonhole : (l : List ℕ) (n : ℕ) → length l ≡ n → Below l n → (
 pigeonhole l n e b h x = ⊎-elim inside outside (below? x n)
   where
     inside : x < n → count x (range 0 n) ≡ count x l
-    inside g = range-one x 0 n zero-le (omega arith) ∙ sym (total-full (λ z. count z l) n (at-most-once l h) (total-count l n b ∙ e) x g)
+    inside g = range-one x 0 n zero-le (omega arith) ∙ sym (partial-sum-full (λ z. count z l) n (at-most-once l h) (partial-sum-count l n b ∙ e) x g)
 
     outside : n ≤ x → count x (range 0 n) ≡ count x l
     outside g =

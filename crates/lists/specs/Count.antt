@@ -1,4 +1,4 @@
--- How often a number stands in a list, how many numbers pass a test, and lists that hold the same numbers equally often. Definitions only.
+-- How often a number stands in a list, how many numbers pass a test, sums, and lists that hold the same numbers equally often. Definitions only.
 use mathlib.Core.Path.{_≡_}
 use mathlib.Core.Bool.{Bool, true, false}
 use mathlib.Core.List.{List, [], _∷_}
@@ -19,6 +19,11 @@ count x (y ∷ l) = one (eqb x y) + count x l
 abbrev pub tally : (ℕ → Bool) → ℕ → ℕ
 tally p zero = 0
 tally p (suc n) = one (p n) + tally p n
+
+-- g 0 + g 1 + .. + g (n - 1)
+abbrev pub partialSum : (ℕ → ℕ) → ℕ → ℕ
+partialSum g zero = 0
+partialSum g (suc n) = g n + partialSum g n
 
 -- m is a permutation of l: the same numbers, each equally often
 abbrev pub Perm : List ℕ → List ℕ → Type 0

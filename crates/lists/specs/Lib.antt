@@ -2,3 +2,4 @@
 pub mod Count
 pub mod Sort
 pub mod First
+pub mod CountingSort

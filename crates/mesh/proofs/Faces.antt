@@ -10,7 +10,7 @@ use Rattle.newtonian.specs.Fold.{Fold}
 use Rattle.refusals.specs.declared.Refusal.the-variants.{Degenerate}
 use Rattle.refusals.specs.declared.Cause.the-variants.{None, Refused}
 use Rattle.refusals.specs.Causes.{unless, firstOf}
-use Rattle.mesh.specs.Surface.{faceCount, normal, isZero, addFace, volume}
+use Rattle.mesh.specs.Surface.{faceCount, normal, isZero, addFaceVolume, volume}
 use Rattle.mesh.specs.Check.{hasNormal, degenerateFace}
 use Rattle.mesh.proofs.Scans.{scan-start, scan-more, scan-stop, scan-end}
 
@@ -33,6 +33,6 @@ module _ (v : List Float) (f : List ℕ) where
   unfolding degenerateFace
   normals-end k a b h = scan-end (faceCount f) (hasNormal v f) (λ k. Degenerate k) k a b h
 
-  pub sum-end : (s : Float) (k : ℕ) → k ≤ faceCount f → faceCount f ≤ k → s ≡ Fold k (addFace v f) 0·0 → s ≡ volume v f
+  pub sum-end : (s : Float) (k : ℕ) → k ≤ faceCount f → faceCount f ≤ k → s ≡ Fold k (addFaceVolume v f) 0·0 → s ≡ volume v f
   unfolding volume
-  sum-end s k a b h = h ∙ ap (λ (n : ℕ). Fold n (addFace v f) 0·0) (let e : k ≡ faceCount f = omega arith in e)
+  sum-end s k a b h = h ∙ ap (λ (n : ℕ). Fold n (addFaceVolume v f) 0·0) (let e : k ≡ faceCount f = omega arith in e)

@@ -1,4 +1,5 @@
--- Neighbours in the order list: an edge that occurs twice stands at two places in a row, and one that differs from its neighbours occurs once. Assumes nothing.
+-- Neighbours in the order list. States: `same-twice`: an edge that stands at two places in a row occurs twice; `differs-once`: one that differs from its neighbours occurs once;
+-- `differ-none`: so where all neighbours differ there is no cause 5. Assumes nothing.
 use mathlib.Core.Path.{_≡_, refl, sym, ap, _∙_}
 use mathlib.Core.Bool.{true}
 use mathlib.Core.List.{List}

@@ -1,4 +1,5 @@
--- A loop that tries a test at 0, 1, .. and stops at the first that fails: a turn, a stop, the end; and one that does not stop, and notes whether all held. Assumes nothing.
+-- A loop that tries a test at 0, 1, .. and stops at the first that fails (`scan-more`: a turn, `scan-stop`, `scan-end`), and one that does not stop and notes whether all held
+-- (`all-more`, `noted-more`). Assumes nothing.
 use mathlib.Core.Path.{_≡_, refl, sym, subst}
 use mathlib.Core.Bool.{Bool, true, false, _&&_}
 use Prim.Native.Nat.{ℕ, _+_, _≤_, _<_}
@@ -29,10 +30,10 @@ module _ (n : ℕ) (t : ℕ → Bool) (r : ℕ → Refusal) where
   all-more i a h e = let w = both a (t i) e in scan-more i (h (w .0)) (w .1)
 
 -- with one refusal a says it both ways
-in-turn : (a b : Bool) (r : Refusal) → unless (a && b) r ≡ orElse (unless a r) (unless b r)
-in-turn true b r = refl
-in-turn false b r = refl
+unless-both : (a b : Bool) (r : Refusal) → unless (a && b) r ≡ orElse (unless a r) (unless b r)
+unless-both true b r = refl
+unless-both false b r = refl
 
 pub noted-more : (t : ℕ → Bool) (r : Refusal) (i : ℕ) (a : Bool) → unless a r ≡ firstOf i (λ j. unless (t j) r) → unless (a && t i) r ≡ firstOf (i + 1) (λ j. unless (t j) r)
 unfolding firstOf
-noted-more t r i a h = rw (in-turn a (t i) r, h, add-one)
+noted-more t r i a h = rw (unless-both a (t i) r, h, add-one)

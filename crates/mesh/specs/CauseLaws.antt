@@ -1,7 +1,8 @@
--- Each cause of refusal as a plain statement: where it does not hold, both ways. Assumes nothing.
-use mathlib.Core.Path.{_≡_, ap, ap₂}
+-- States: `causes-in-order`: `meshCause` is the first of the nine causes in document 01's order; and of each cause 1, 2, 12, 3, 4, 7 and 8 where it does not hold, as a plain statement,
+-- both ways (`none-malformed` and `malformed-none`, ..). `is-body`, `none-each` and `each-none` serve other laws. Assumes nothing.
+use mathlib.Core.Path.{_≡_, refl, ap, ap₂, _∙_}
 use mathlib.Core.Bool.{Bool, true, false, _&&_, not}
-use mathlib.Core.List.{List}
+use mathlib.Core.List.{List, [], _∷_}
 use Prim.Native.Nat.{ℕ, _/_, _%_, _≤_, _<_}
 use native.Mathlib.Omega.{arith}
 use lib.ListN.{length, getD}
@@ -11,7 +12,8 @@ use borrow.Author.Tests.{eq-eqb, eqb-true, le-leb, leb-true, lt-ltb, ltb-true, n
 use Rattle.doubles.specs.Constants.{0·0}
 use Rattle.refusals.specs.declared.Refusal.{Refusal}
 use Rattle.refusals.specs.declared.Refusal.the-variants.{Malformed, TooMany, TooShort, OutOfLimits, NoSuchVertex, Degenerate, Inverted}
-use Rattle.refusals.specs.declared.Cause.the-variants.{None}
+use Rattle.refusals.specs.declared.Cause.{Cause}
+use Rattle.refusals.specs.declared.Cause.the-variants.{None, Refused}
 use Rattle.refusals.specs.Causes.{orElse, unless, firstOf}
 use Rattle.refusals.proofs.Causes.{holds, passes, each, from-each}
 use Rattle.refusals.proofs.Causes as causes
@@ -20,11 +22,32 @@ use Rattle.lists.proofs.Numbers.{both}
 use Rattle.mesh_orders.specs.Edges.{maxVertices, maxFaces}
 use Rattle.mesh.specs.Surface.{vertexCount, faceCount, Body, normal, isZero, volume}
 use Rattle.mesh.specs.Accepted.{Counted}
-use Rattle.mesh.specs.Check.{malformed, tooMany, tooShort, countCause, inLimits, outOfLimits, namesVertex, noSuchVertex, hasNormal, degenerateFace, inverted}
+use Rattle.mesh.specs.Check.{malformed, tooMany, tooShort, inLimits, outOfLimits, namesVertex, noSuchVertex, hasNormal, degenerateFace, inverted, meshCauses, meshCause, countCause, surfaceCause, orderCause, facesCause}
+
+-- ---- the order
+
+-- the first cause of a list
+abbrev pub firstCause : List Cause → Cause
+firstCause [] = None
+firstCause (c ∷ cs) = orElse c (firstCause cs)
+
+or-none : (c : Cause) → orElse c None ≡ c
+or-none None = refl
+or-none (Refused r) = refl
+
+or-assoc : (c d e : Cause) → orElse (orElse c d) e ≡ orElse c (orElse d e)
+or-assoc None d e = refl
+or-assoc (Refused r) d e = refl
+
+pub causes-in-order : (v : List Float) (f : List ℕ) (n : ℕ) → meshCause v f n ≡ firstCause (meshCauses v f n)
+unfolding meshCause countCause surfaceCause orderCause facesCause
+causes-in-order v f n = rw (or-none (inverted v f)) (or-assoc (malformed v f) (orElse (tooMany v f) (tooShort f n)) _ ∙ ap (orElse (malformed v f)) (or-assoc (tooMany v f) (tooShort f n) _))
+
+-- ---- each cause
 
 -- counts within the limits and corners that name vertices: a body
-pub body : (v : List Float) (f : List ℕ) (n : ℕ) → Counted v f n → Below f (vertexCount v) → Body v f
-body v f n h inside = record {
+pub is-body : (v : List Float) (f : List ℕ) (n : ℕ) → Counted v f n → Below f (vertexCount v) → Body v f
+is-body v f n h inside = record {
   faces = record { triples = h .corners; few = omega (arith, h .corners, h .faces); small = λ i l. omega (arith, inside i l, h .vertices) };
   inside = inside;
 }

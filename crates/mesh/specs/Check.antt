@@ -18,7 +18,7 @@ use Rattle.lists.specs.Count.{count}
 use Rattle.mesh_orders.specs.Edges.{maxVertices, maxFaces, from, to, occurrences}
 use Rattle.mesh_orders.specs.Order.{orderList}
 use Rattle.mesh.specs.Surface.{vertexCount, faceCount, normal, isZero, volume}
-use Rattle.mesh.specs.declared.Mesh.{Mesh}
+use Rattle.mesh.specs.declared.Solid.{Solid}
 
 -- 1: a list's length is not a multiple of 3
 unfoldable pub malformed : List Float → List ℕ → Cause
@@ -77,40 +77,61 @@ degenerateFace v f = firstOf (faceCount f) (λ k. unless (hasNormal v f k) (Dege
 unfoldable pub inverted : List Float → List ℕ → Cause
 inverted v f = unless (lt 0·0 (volume v f)) Inverted
 
--- the causes in document 01's order: 1, 2, 12, 3, 4, 5, 6, 7, 8
-unfoldable pub meshCause : List Float → List ℕ → ℕ → Cause
-meshCause v f n =
-    orElse (malformed v f) (orElse (tooMany v f) (orElse (tooShort f n) (orElse (outOfLimits v) (orElse (noSuchVertex (vertexCount v) f) (orElse (flippedEdge f (orderList f)) (orElse (openEdge f (orderList f)) (orElse (degenerateFace v f) (inverted v f))))))))
+-- ---- the causes in document 01's order: 1, 2, 12, 3, 4, 5, 6, 7, 8
 
--- the first three, for callers with more numbers to try at 3
+-- all of them. `meshCause` below is the first of this list that refuses (`causes-in-order` in CauseLaws), and its parts have names for callers that try the causes before them themselves
+abbrev pub meshCauses : List Float → List ℕ → ℕ → List Cause
+meshCauses v f n =
+    malformed v f
+    ∷ tooMany v f
+    ∷ tooShort f n
+    ∷ outOfLimits v
+    ∷ noSuchVertex (vertexCount v) f
+    ∷ flippedEdge f (orderList f)
+    ∷ openEdge f (orderList f)
+    ∷ degenerateFace v f
+    ∷ inverted v f
+    ∷ []
+
+-- 1, 2, 12
 unfoldable pub countCause : List Float → List ℕ → ℕ → Cause
 countCause v f n = orElse (malformed v f) (orElse (tooMany v f) (tooShort f n))
 
--- those from 4 on, for callers that try 1, 2, 12 and 3 themselves; and those from 5 on, with the order list at hand
-unfoldable pub surfaceCause : List Float → List ℕ → Cause
-surfaceCause v f = orElse (noSuchVertex (vertexCount v) f) (orElse (flippedEdge f (orderList f)) (orElse (openEdge f (orderList f)) (orElse (degenerateFace v f) (inverted v f))))
-
-unfoldable pub orderCause : List Float → List ℕ → List ℕ → Cause
-orderCause v f o = orElse (flippedEdge f o) (orElse (openEdge f o) (orElse (degenerateFace v f) (inverted v f)))
-
--- 7 and 8, which need no order list
+-- 7, 8
 unfoldable pub facesCause : List Float → List ℕ → Cause
 facesCause v f = orElse (degenerateFace v f) (inverted v f)
 
--- a cause's refusal, or else the volume
-abbrev pub meshOf : Cause → Float → Mesh
-meshOf Cause.None x = Mesh.Volume x
-meshOf (Cause.Refused r) x = Mesh.Refused r
+-- 5, 6, then 7, 8; with the order list at hand
+unfoldable pub orderCause : List Float → List ℕ → List ℕ → Cause
+orderCause v f o = orElse (flippedEdge f o) (orElse (openEdge f o) (facesCause v f))
+
+-- 4, then 5 to 8
+unfoldable pub surfaceCause : List Float → List ℕ → Cause
+surfaceCause v f = orElse (noSuchVertex (vertexCount v) f) (orderCause v f (orderList f))
+
+-- 1, 2, 12, then 3, then 4 to 8
+unfoldable pub meshCause : List Float → List ℕ → ℕ → Cause
+meshCause v f n = orElse (countCause v f n) (orElse (outOfLimits v) (surfaceCause v f))
+
+-- ---- the answer
+
+-- a cause's refusal, or else the volume, of a mesh or a prism
+abbrev pub solidOf : Cause → Float → Solid
+solidOf Cause.None x = Solid.Volume x
+solidOf (Cause.Refused r) x = Solid.Refused r
 
 -- the answer, for a work list of n entries
-unfoldable pub checkMesh : List Float → List ℕ → ℕ → Mesh
-checkMesh v f n = meshOf (meshCause v f n) (volume v f)
+unfoldable pub checkMesh : List Float → List ℕ → ℕ → Solid
+checkMesh v f n = solidOf (meshCause v f n) (volume v f)
 
-abbrev pub answerOf : Mesh → Answer Float
-answerOf (Mesh.Volume x) = value x
-answerOf (Mesh.Refused r) = refused r
+abbrev pub answerOf : Solid → Answer Float
+answerOf (Solid.Volume x) = value x
+answerOf (Solid.Refused r) = refused r
 
--- "work" is the lent order list, a term of document 01: these refusals leave it as it was, and after every other and after a success it holds the order list
+-- ---- the work list, a term of document 01: lent, for the order list
+
+-- of the refusals that a call with a work list can give, 1 to 13, those that leave it as it was; after the others and after a success it starts with the order list (that of 10,
+-- which is a prism's, is empty). No such call gives 14 to 20, and nothing is said of them here
 unfoldable pub leavesWork : Refusal → Bool
 leavesWork r = leb 1 (count (numberOf r) (1 ∷ 2 ∷ 12 ∷ 3 ∷ 4 ∷ 9 ∷ []))
 

@@ -46,8 +46,8 @@ unfoldable pub faceVolume : List Float → List ℕ → ℕ → Float
 faceVolume v f k = dot (corner v f k 0) (normal v f k) ⊘ 6·0
 
 -- the computed volume: the sum over the faces in order, from 0
-abbrev pub addFace : List Float → List ℕ → ℕ → Float → Float
-addFace v f k s = s ⊕ faceVolume v f k
+abbrev pub addFaceVolume : List Float → List ℕ → ℕ → Float → Float
+addFaceVolume v f k s = s ⊕ faceVolume v f k
 
 unfoldable pub volume : List Float → List ℕ → Float
-volume v f = Fold (faceCount f) (addFace v f) 0·0
+volume v f = Fold (faceCount f) (addFaceVolume v f) 0·0

@@ -9,8 +9,8 @@ use mesh_orders::edges::MAX_VERTICES;
 use refusals::Cause;
 use refusals::Refusal;
 
-// What `check_mesh` answers: the volume, or the refusal.
-pub enum Mesh {
+// What the check of a solid, a mesh or a prism, answers: the volume, or the refusal.
+pub enum Solid {
     Volume(f64),
     Refused(Refusal),
 }

@@ -21,7 +21,7 @@ use mesh_orders::order::pass;
 use refusals::Cause;
 use refusals::Refusal;
 
-// Without a branch, so that a loop can test several numbers at a time.
+// a and b. A loop that uses it tests all its numbers and does not stop at the first that fails, so that the compiler can test several at a time.
 fn both(a: bool, b: bool) -> bool
     ensures { λ r. ⌜ r ≡ (a && b) ⌝ }
 {

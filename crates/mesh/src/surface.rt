@@ -3,8 +3,8 @@ ghost use mathlib.Core.Path.{_≡_};
 ghost use Prim.Native.Nat.{_+_, _*_, _/_, _<_};
 ghost use lib.ListN.{length};
 ghost use Rattle.mesh.specs.Surface.{Body, vertexCount, faceCount, vertex, corner, normal, isZero, faceVolume, volume};
-ghost use Rattle.mesh.specs.Check.{facesCause, meshOf};
-use crate::Mesh;
+ghost use Rattle.mesh.specs.Check.{facesCause, solidOf};
+use crate::Solid;
 use newtonian::Vector;
 use newtonian::cross;
 use newtonian::difference;
@@ -64,21 +64,21 @@ fn face_volume(verts: &[f64], faces: &[u32], k: usize) -> f64
 }
 
 // The causes 7 and 8, or else the volume.
-pub fn check_faces(verts: &[f64], faces: &[u32]) -> Mesh
+pub fn check_faces(verts: &[f64], faces: &[u32]) -> Solid
     requires { ⌜ Body (now verts) (now faces) ⌝ }
-    ensures { λ r. ⌜ r ≡ meshOf (facesCause (now (verts .entry)) (now (faces .entry))) (volume (now (verts .entry)) (now (faces .entry))) ⌝ }
+    ensures { λ r. ⌜ r ≡ solidOf (facesCause (now (verts .entry)) (now (faces .entry))) (volume (now (verts .entry)) (now (faces .entry))) ⌝ }
 {
     let mut sum = 0.0;
     let mut k = 0;
     while k < faces.len() / 3 {
         if is_zero(normal(verts, faces, k)) {
-            return Mesh::Refused(Refusal::Degenerate(k as u32));
+            return Solid::Refused(Refusal::Degenerate(k as u32));
         }
         sum = sum + face_volume(verts, faces, k);
         k += 1;
     }
     if 0.0 < sum {
-        return Mesh::Volume(sum);
+        return Solid::Volume(sum);
     }
-    Mesh::Refused(Refusal::Inverted)
+    Solid::Refused(Refusal::Inverted)
 }

@@ -1,33 +1,35 @@
-// `check_mesh`: is a list of triangles a closed, consistently wound, outward-facing surface?
+// `check_mesh`: is a list of triangles a closed, consistently wound, outward-facing surface? Its definition, `checkMesh`, with the causes of refusal is in mesh/specs/Check; that
+// they say what document 01 says, in mesh_laws/specs/Laws; the parts that try a cause each, in mesh/src and mesh_orders/src.
 mod room;
 
 ghost use mathlib.Core.Path.{_≡_};
 ghost use lib.ListN.{length};
 ghost use Rattle.mesh_orders.specs.Order.{orderList};
 ghost use Rattle.mesh.specs.Surface.{Body, vertexCount, volume};
-ghost use Rattle.mesh.specs.Check.{orderCause, surfaceCause, meshCause, meshOf, checkMesh, workAfter};
+ghost use Rattle.mesh.specs.Check.{surfaceCause, meshCause, solidOf, checkMesh, workAfter};
 ghost use Rattle.mesh.specs.Accepted.{Counted};
-use mesh::Mesh;
+ghost use Rattle.mesh_check.specs.CheckOrder.{checkOrder};
+use mesh::Solid;
 use refusals::Cause;
 
-// The causes 5 to 8, by the order list, with a counter for each vertex and a spare list.
+// The causes 5 to 8, by the order list. counts has a counter for each vertex and spare an entry for each edge use; both are scratch.
 fn check_order(
     verts: &[f64],
     faces: &[u32],
     order: &[u32],
     counts: &mut [u32],
     spare: &mut [u32],
-) -> Mesh
+) -> Solid
     requires { ⌜ Body (now verts) (now faces) × (now order ≡ orderList (now faces)) × (length (now counts) ≡ vertexCount (now verts)) × (length (now spare) ≡ length (now faces)) ⌝ }
-    ensures { λ r. ⌜ r ≡ meshOf (orderCause (now (verts .entry)) (now (faces .entry)) (orderList (now (faces .entry)))) (volume (now (verts .entry)) (now (faces .entry))) ⌝ }
+    ensures { λ r. ⌜ r ≡ checkOrder (now (verts .entry)) (now (faces .entry)) ⌝ }
 {
     let flipped = mesh::scan::flipped_edge(faces, order);
     if let Cause::Refused(r) = flipped {
-        return Mesh::Refused(r);
+        return Solid::Refused(r);
     }
     let open = mesh::scan::open_edge(faces, order, counts, spare);
     if let Cause::Refused(r) = open {
-        return Mesh::Refused(r);
+        return Solid::Refused(r);
     }
     mesh::surface::check_faces(verts, faces)
 }
@@ -39,9 +41,9 @@ pub(crate) fn check_edges(
     counts: &mut [u32],
     spare: &mut [u32],
     work: &mut [u32],
-) -> Mesh
+) -> Solid
     requires { ⌜ Body (now verts) (now faces) × (length (now counts) ≡ vertexCount (now verts)) × (length (now spare) ≡ length (now faces)) × (length (now work) ≡ length (now faces)) ⌝ }
-    ensures { λ r. ⌜ r ≡ meshOf (orderCause (now (verts .entry)) (now (faces .entry)) (orderList (now (faces .entry)))) (volume (now (verts .entry)) (now (faces .entry))) ⌝ }
+    ensures { λ r. ⌜ r ≡ checkOrder (now (verts .entry)) (now (faces .entry)) ⌝ }
     ensures { λ r. ⌜ now (work .exit) ≡ orderList (now (faces .entry)) ⌝ }
 {
     mesh_orders::order::order(faces, counts, spare, work);
@@ -49,14 +51,14 @@ pub(crate) fn check_edges(
 }
 
 // The causes 4 to 8, for callers that have tried 1, 2, 12 and 3. Work starts with the order list afterwards, but after 4.
-pub fn check_surface(verts: &[f64], faces: &[u32], work: &mut [u32]) -> Mesh
+pub fn check_surface(verts: &[f64], faces: &[u32], work: &mut [u32]) -> Solid
     requires { ⌜ Counted (now verts) (now faces) (length (now work)) ⌝ }
-    ensures { λ r. ⌜ r ≡ meshOf (surfaceCause (now (verts .entry)) (now (faces .entry))) (volume (now (verts .entry)) (now (faces .entry))) ⌝ }
+    ensures { λ r. ⌜ r ≡ solidOf (surfaceCause (now (verts .entry)) (now (faces .entry))) (volume (now (verts .entry)) (now (faces .entry))) ⌝ }
     ensures { λ r. ⌜ now (work .exit) ≡ workAfter (surfaceCause (now (verts .entry)) (now (faces .entry))) (now (faces .entry)) (now (work .entry)) ⌝ }
 {
     let missing = mesh::scan::no_such_vertex(verts.len() / 3, faces);
     if let Cause::Refused(r) = missing {
-        return Mesh::Refused(r);
+        return Solid::Refused(r);
     }
     let n = faces.len();
     room::by_size(verts, faces, &mut work[..n])
@@ -64,17 +66,17 @@ pub fn check_surface(verts: &[f64], faces: &[u32], work: &mut [u32]) -> Mesh
 
 // Checks that the faces form a closed, consistently wound, outward-facing surface, and returns its volume. verts has three coordinates to a vertex, faces three vertex
 // numbers to a face, and work, which is lent, three entries or more to a face: the order list afterwards.
-pub fn check_mesh(verts: &[f64], faces: &[u32], work: &mut [u32]) -> Mesh
+pub fn check_mesh(verts: &[f64], faces: &[u32], work: &mut [u32]) -> Solid
     ensures { λ r. ⌜ r ≡ checkMesh (now (verts .entry)) (now (faces .entry)) (length (now (work .entry))) ⌝ }
     ensures { λ r. ⌜ now (work .exit) ≡ workAfter (meshCause (now (verts .entry)) (now (faces .entry)) (length (now (work .entry)))) (now (faces .entry)) (now (work .entry)) ⌝ }
 {
     let counts = mesh::count_cause(verts, faces, work.len());
     if let Cause::Refused(r) = counts {
-        return Mesh::Refused(r);
+        return Solid::Refused(r);
     }
     let numbers = mesh::scan::out_of_limits(verts);
     if let Cause::Refused(r) = numbers {
-        return Mesh::Refused(r);
+        return Solid::Refused(r);
     }
     check_surface(verts, faces, work)
 }

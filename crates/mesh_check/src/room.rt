@@ -1,26 +1,37 @@
-// Room for the edge uses of a mesh and a counter for each vertex, in three sizes: to clear the largest takes longer than to check a small mesh.
+// Scratch for the check of a mesh: a counter for each vertex and a list of the edge uses, made here on the stack, in three sizes. To clear the largest takes longer than to check a
+// small mesh. `check_edges` lends it to `mesh_orders::order`, which sorts the edge uses by counting, and then to `mesh::scan::open_edge`, which sorts them once more by the other end
+// (`mesh_orders::order::pass`). Nobody reads what is left in it.
 ghost use mathlib.Core.Path.{_≡_};
 ghost use mathlib.Core.Bool.{_&&_};
-ghost use Prim.Native.Nat.{_≤_, _<_};
+ghost use Prim.Native.Nat.{_*_, _≤_, _<_};
 ghost use lib.Dec.{leb};
 ghost use lib.ListN.{length};
 ghost use Rattle.mesh_orders.specs.Edges.{maxVertices};
 ghost use Rattle.mesh_orders.specs.Order.{orderList};
-ghost use Rattle.mesh.specs.Surface.{Body, vertexCount, volume};
-ghost use Rattle.mesh.specs.Check.{orderCause, meshOf};
-use mesh::Mesh;
+ghost use Rattle.mesh.specs.Surface.{Body, vertexCount};
+ghost use Rattle.mesh_check.specs.CheckOrder.{checkOrder, growth, smallRoom, mediumRoom, largeRoom};
+use mesh::Solid;
 use mesh_orders::edges::MAX_VERTICES;
 
-fn numbers_1536() -> [u32; 1536]
-    ensures { λ r. ⌜ length r ≡ 1536 ⌝ }
+// Each room is so many times the one before. The largest holds the edge uses of MAX_FACES, 32,768.
+const GROWTH: usize = 8;
+
+// The edge uses of 512 faces.
+const SMALL_ROOM: usize = 3 * 512;
+
+// The edge uses of 4,096 faces.
+const MEDIUM_ROOM: usize = GROWTH * SMALL_ROOM;
+
+fn small_list() -> [u32; SMALL_ROOM]
+    ensures { λ r. ⌜ length r ≡ smallRoom ⌝ }
 {
-    [0; 1536]
+    [0; SMALL_ROOM]
 }
 
-fn numbers_12288() -> [u32; 12288]
-    ensures { λ r. ⌜ length r ≡ 12288 ⌝ }
+fn medium_list() -> [u32; MEDIUM_ROOM]
+    ensures { λ r. ⌜ length r ≡ mediumRoom ⌝ }
 {
-    [0; 12288]
+    [0; MEDIUM_ROOM]
 }
 
 fn counters() -> [u32; MAX_VERTICES]
@@ -29,36 +40,36 @@ fn counters() -> [u32; MAX_VERTICES]
     [0; MAX_VERTICES]
 }
 
-// For at most 1,536 vertices and as many edge uses.
-fn check_small(verts: &[f64], faces: &[u32], work: &mut [u32]) -> Mesh
-    requires { ⌜ Body (now verts) (now faces) × (length (now work) ≡ length (now faces)) × (vertexCount (now verts) ≤ 1536) × (length (now faces) ≤ 1536) ⌝ }
-    ensures { λ r. ⌜ r ≡ meshOf (orderCause (now (verts .entry)) (now (faces .entry)) (orderList (now (faces .entry)))) (volume (now (verts .entry)) (now (faces .entry))) ⌝ }
+// In the small room.
+fn check_small(verts: &[f64], faces: &[u32], work: &mut [u32]) -> Solid
+    requires { ⌜ Body (now verts) (now faces) × (length (now work) ≡ length (now faces)) × (vertexCount (now verts) ≤ smallRoom) × (length (now faces) ≤ smallRoom) ⌝ }
+    ensures { λ r. ⌜ r ≡ checkOrder (now (verts .entry)) (now (faces .entry)) ⌝ }
     ensures { λ r. ⌜ now (work .exit) ≡ orderList (now (faces .entry)) ⌝ }
 {
     let v = verts.len() / 3;
     let n = faces.len();
-    let mut counts = numbers_1536();
-    let mut spare = numbers_1536();
+    let mut counts = small_list();
+    let mut spare = small_list();
     crate::check_edges(verts, faces, &mut counts[..v], &mut spare[..n], work)
 }
 
-// For at most 12,288 vertices and as many edge uses.
-fn check_medium(verts: &[f64], faces: &[u32], work: &mut [u32]) -> Mesh
-    requires { ⌜ Body (now verts) (now faces) × (length (now work) ≡ length (now faces)) × (vertexCount (now verts) ≤ 12288) × (length (now faces) ≤ 12288) ⌝ }
-    ensures { λ r. ⌜ r ≡ meshOf (orderCause (now (verts .entry)) (now (faces .entry)) (orderList (now (faces .entry)))) (volume (now (verts .entry)) (now (faces .entry))) ⌝ }
+// In the medium room.
+fn check_medium(verts: &[f64], faces: &[u32], work: &mut [u32]) -> Solid
+    requires { ⌜ Body (now verts) (now faces) × (length (now work) ≡ length (now faces)) × (vertexCount (now verts) ≤ mediumRoom) × (length (now faces) ≤ mediumRoom) ⌝ }
+    ensures { λ r. ⌜ r ≡ checkOrder (now (verts .entry)) (now (faces .entry)) ⌝ }
     ensures { λ r. ⌜ now (work .exit) ≡ orderList (now (faces .entry)) ⌝ }
 {
     let v = verts.len() / 3;
     let n = faces.len();
-    let mut counts = numbers_12288();
-    let mut spare = numbers_12288();
+    let mut counts = medium_list();
+    let mut spare = medium_list();
     crate::check_edges(verts, faces, &mut counts[..v], &mut spare[..n], work)
 }
 
-// For every mesh within the limits.
-fn check_large(verts: &[f64], faces: &[u32], work: &mut [u32]) -> Mesh
+// In the room for every mesh within the limits.
+fn check_large(verts: &[f64], faces: &[u32], work: &mut [u32]) -> Solid
     requires { ⌜ Body (now verts) (now faces) × (length (now work) ≡ length (now faces)) × (vertexCount (now verts) ≤ maxVertices) ⌝ }
-    ensures { λ r. ⌜ r ≡ meshOf (orderCause (now (verts .entry)) (now (faces .entry)) (orderList (now (faces .entry)))) (volume (now (verts .entry)) (now (faces .entry))) ⌝ }
+    ensures { λ r. ⌜ r ≡ checkOrder (now (verts .entry)) (now (faces .entry)) ⌝ }
     ensures { λ r. ⌜ now (work .exit) ≡ orderList (now (faces .entry)) ⌝ }
 {
     let v = verts.len() / 3;
@@ -68,7 +79,7 @@ fn check_large(verts: &[f64], faces: &[u32], work: &mut [u32]) -> Mesh
     crate::check_edges(verts, faces, &mut counts[..v], &mut spare[..n], work)
 }
 
-// Whether the room for n vertices and as many edge uses holds a mesh.
+// Whether a room for n vertices and n edge uses holds the mesh.
 fn fits(verts: &[f64], faces: &[u32], n: usize) -> bool
     ensures { λ r. ⌜ r ≡ (leb (vertexCount (now (verts .entry))) n && leb (length (now (faces .entry))) n) ⌝ }
 {
@@ -78,28 +89,29 @@ fn fits(verts: &[f64], faces: &[u32], n: usize) -> bool
     faces.len() <= n
 }
 
-// The causes 5 to 8, in the room for n vertices and as many edge uses or, where that does not hold the mesh, in the next larger one. Work is the order list
-// afterwards. It calls itself, and so the compiler keeps the rooms apart; in one function every mesh would pay for the stack of the largest.
-fn from_room(verts: &[f64], faces: &[u32], work: &mut [u32], n: usize) -> Mesh
-    requires { ⌜ Body (now verts) (now faces) × (length (now work) ≡ length (now faces)) × (vertexCount (now verts) ≤ maxVertices) × (0 < n) × (n < 800000) ⌝ }
-    ensures { λ r. ⌜ r ≡ meshOf (orderCause (now (verts .entry)) (now (faces .entry)) (orderList (now (faces .entry)))) (volume (now (verts .entry)) (now (faces .entry))) ⌝ }
+// The causes 5 to 8, in the room for n vertices and n edge uses or, where that does not hold the mesh, in the next larger one. Work is the order list afterwards.
+// It calls itself for the next size so that each room keeps a stack frame of its own: the compiler takes neither a function that calls itself into its caller, nor what it calls with
+// large arrays into it. In one frame every mesh would touch the pages of the largest room.
+fn from_room(verts: &[f64], faces: &[u32], work: &mut [u32], n: usize) -> Solid
+    requires { ⌜ Body (now verts) (now faces) × (length (now work) ≡ length (now faces)) × (vertexCount (now verts) ≤ maxVertices) × (0 < n) × (n < growth * largeRoom) ⌝ }
+    ensures { λ r. ⌜ r ≡ checkOrder (now (verts .entry)) (now (faces .entry)) ⌝ }
     ensures { λ r. ⌜ now (work .exit) ≡ orderList (now (faces .entry)) ⌝ }
 {
     if !fits(verts, faces, n) {
-        return from_room(verts, faces, work, 8 * n);
+        return from_room(verts, faces, work, GROWTH * n);
     }
     match n {
-        1536 => check_small(verts, faces, work),
-        12288 => check_medium(verts, faces, work),
+        SMALL_ROOM => check_small(verts, faces, work),
+        MEDIUM_ROOM => check_medium(verts, faces, work),
         _ => check_large(verts, faces, work),
     }
 }
 
-// The same, in the smallest room that holds the mesh.
-pub(crate) fn by_size(verts: &[f64], faces: &[u32], work: &mut [u32]) -> Mesh
+// The causes 5 to 8, in the smallest room that holds the mesh. Work is the order list afterwards.
+pub(crate) fn by_size(verts: &[f64], faces: &[u32], work: &mut [u32]) -> Solid
     requires { ⌜ Body (now verts) (now faces) × (length (now work) ≡ length (now faces)) × (vertexCount (now verts) ≤ maxVertices) ⌝ }
-    ensures { λ r. ⌜ r ≡ meshOf (orderCause (now (verts .entry)) (now (faces .entry)) (orderList (now (faces .entry)))) (volume (now (verts .entry)) (now (faces .entry))) ⌝ }
+    ensures { λ r. ⌜ r ≡ checkOrder (now (verts .entry)) (now (faces .entry)) ⌝ }
     ensures { λ r. ⌜ now (work .exit) ≡ orderList (now (faces .entry)) ⌝ }
 {
-    from_room(verts, faces, work, 1536)
+    from_room(verts, faces, work, SMALL_ROOM)
 }

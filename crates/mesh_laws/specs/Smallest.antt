@@ -1,4 +1,5 @@
--- A scan of the order list for the first edge that fails a test finds the smallest edge that does. Assumes nothing.
+-- A step towards `Laws`. States: `smallest`, `from-smallest`: a scan of the order list for the first edge that fails a test finds the smallest edge that does, both ways; `all-pass`,
+-- `pass-all`: it finds none exactly where every edge passes; `first-fail`: what a scan for the first test that fails finds. Assumes nothing.
 use mathlib.Core.Path.{_≡_, refl, sym, ap, ap₂, _∙_}
 use mathlib.Core.Bool.{Bool, true, false}
 use mathlib.Core.List.{List}
@@ -76,8 +77,8 @@ module _ (f : List ℕ) (h : Faces f) (T : ℕ → ℕ → Bool) (R : ℕ → �
   refusalAt i = R (from f (getD (orderList f) i 0)) (to f (getD (orderList f) i 0))
 
   -- an edge that occurs stands at a place
-  at-place : (a b : ℕ) → 1 ≤ occurrences f a b → (i : ℕ) × (i < length f) × (from f (getD (orderList f) i 0) ≡ a) × (to f (getD (orderList f) i 0) ≡ b)
-  at-place a b o =
+  edge-place : (a b : ℕ) → 1 ≤ occurrences f a b → (i : ℕ) × (i < length f) × (from f (getD (orderList f) i 0) ≡ a) × (to f (getD (orderList f) i 0) ≡ b)
+  edge-place a b o =
       let u = some-use f a b o in
       let q = has-pair f (u .0) a b (u .2) in
       let p = place f (u .0) (u .1) in
@@ -85,7 +86,7 @@ module _ (f : List ℕ) (h : Faces f) (T : ℕ → ℕ → Bool) (R : ℕ → �
 
   pub all-pass : firstOf (length f) (λ i. unless (test i) (refusalAt i)) ≡ None → (a b : ℕ) → 1 ≤ occurrences f a b → T a b ≡ true
   all-pass e a b o =
-      let p = at-place a b o in
+      let p = edge-place a b o in
       sym (ap₂ T (p .2) (p .3)) ∙ none-each (length f) test refusalAt e (p .0) (p .1)
 
   pub pass-all : ((u : ℕ) → u < length f → T (from f u) (to f u) ≡ true) → firstOf (length f) (λ i. unless (test i) (refusalAt i)) ≡ None
@@ -106,7 +107,7 @@ module _ (f : List ℕ) (h : Faces f) (T : ℕ → ℕ → Bool) (R : ℕ → �
 
       least : (c d : ℕ) → 1 ≤ occurrences f c d → T c d ≡ false → NotAfter (from f u) (to f u) c d
       least c d o t =
-          let p = at-place c d o in
+          let p = edge-place c d o in
           let w = getD (orderList f) (p .0) 0 in
           let late : g .at ≤ p .0 =
           ⊎-elim (λ l. absurd (true≢false (sym (g .before (p .0) l) ∙ ap₂ T (p .2) (p .3) ∙ t))) (λ l. l) (below? (p .0) (g .at)) in

@@ -1,4 +1,4 @@
--- Document 01's reference tetrahedron T: what the definitions give for it and for its damaged forms, as one fact over a list. Assumes nothing.
+-- Document 01's reference tetrahedron T. States: `reference`: what the definitions give for it and for its damaged forms, as one fact over a list. Assumes nothing.
 use mathlib.Core.Path.{_≡_, refl, ap, ap₂, _∙_}
 use mathlib.Core.Bool.{false}
 use mathlib.Core.List.{List, [], _∷_}
@@ -17,9 +17,9 @@ use Rattle.newtonian.specs.Fold.{Fold}
 use Rattle.mesh_orders.specs.Edges.{occurrences, edge, reverse}
 use Rattle.mesh_orders.specs.Order.{key, orderList}
 use Rattle.mesh_orders.specs.Mates.{mate, mates}
-use Rattle.mesh.specs.declared.Mesh.{Mesh}
+use Rattle.mesh.specs.declared.Solid.{Solid}
 use Rattle.mesh.specs.Surface.{normal, isZero, faceVolume, volume}
-use Rattle.mesh.specs.Check.{malformed, tooMany, tooShort, outOfLimits, noSuchVertex, flippedEdge, openEdge, degenerateFace, inverted, orderCause, meshCause, meshOf, checkMesh}
+use Rattle.mesh.specs.Check.{malformed, tooMany, tooShort, outOfLimits, noSuchVertex, flippedEdge, openEdge, degenerateFace, inverted, countCause, facesCause, orderCause, surfaceCause, meshCause, solidOf, checkMesh}
 
 -- (0,0,0), (1,0,0), (0,1,0), (0,0,1)
 unfoldable pub verts : List Float
@@ -38,44 +38,44 @@ dropped = 0 ∷ 2 ∷ 1 ∷ 0 ∷ 1 ∷ 3 ∷ 0 ∷ 3 ∷ 2 ∷ []
 abbrev pub turned : List ℕ
 turned = 0 ∷ 2 ∷ 1 ∷ 0 ∷ 1 ∷ 3 ∷ 0 ∷ 3 ∷ 2 ∷ 1 ∷ 3 ∷ 2 ∷ []
 
-abbrev pub single : List ℕ
-single = 0 ∷ 0 ∷ 1 ∷ []
+abbrev pub oneFace : List ℕ
+oneFace = 0 ∷ 0 ∷ 1 ∷ []
 
 -- what is asked: an answer of `check_mesh` with a work list of 12 entries, or a list of edge uses
-pub data Value : Type 0 where
-  mesh : Mesh → Value
-  uses : List ℕ → Value
+pub data MeshAnswer : Type 0 where
+  mesh : Solid → MeshAnswer
+  uses : List ℕ → MeshAnswer
 
-unfoldable pub questions : List Value
-questions =
+unfoldable pub meshQuestions : List MeshAnswer
+meshQuestions =
     mesh (checkMesh verts T 12)
     ∷ mesh (checkMesh verts exchanged 12)
     ∷ uses (orderList T)
     ∷ uses (mates T)
     ∷ mesh (checkMesh verts dropped 12)
     ∷ mesh (checkMesh verts turned 12)
-    ∷ mesh (checkMesh verts single 12)
+    ∷ mesh (checkMesh verts oneFace 12)
     ∷ mesh (checkMesh verts [] 12)
     ∷ []
 
 -- the volume of T is the double nearest 1/6
-unfoldable pub answers : List Value
-answers =
-    mesh (Mesh.Volume (round binary64 false 1 6))
-    ∷ mesh (Mesh.Refused Inverted)
+unfoldable pub meshAnswers : List MeshAnswer
+meshAnswers =
+    mesh (Solid.Volume (round binary64 false 1 6))
+    ∷ mesh (Solid.Refused Inverted)
     ∷ uses (3 ∷ 0 ∷ 6 ∷ 2 ∷ 9 ∷ 4 ∷ 8 ∷ 1 ∷ 10 ∷ 5 ∷ 11 ∷ 7 ∷ [])
     ∷ uses (8 ∷ 9 ∷ 3 ∷ 2 ∷ 11 ∷ 6 ∷ 5 ∷ 10 ∷ 0 ∷ 1 ∷ 7 ∷ 4 ∷ [])
-    ∷ mesh (Mesh.Refused (Open 1 3))
-    ∷ mesh (Mesh.Refused (Flipped 1 3))
-    ∷ mesh (Mesh.Refused (Degenerate 0))
-    ∷ mesh (Mesh.Refused Inverted)
+    ∷ mesh (Solid.Refused (Open 1 3))
+    ∷ mesh (Solid.Refused (Flipped 1 3))
+    ∷ mesh (Solid.Refused (Degenerate 0))
+    ∷ mesh (Solid.Refused Inverted)
     ∷ []
 
 -- by the order list as numbers, so that it is computed once
 through : (f o : List ℕ) (c : Cause) → orderList f ≡ o → meshCause verts f 12 ≡ orderCause verts f (orderList f) → orderCause verts f o ≡ c
-    → checkMesh verts f 12 ≡ meshOf c (volume verts f)
+    → checkMesh verts f 12 ≡ solidOf c (volume verts f)
 unfolding checkMesh
-through f o c e a b = ap (λ (d : Cause). meshOf d (volume verts f)) (a ∙ ap (orderCause verts f) e ∙ b)
+through f o c e a b = ap (λ (d : Cause). solidOf d (volume verts f)) (a ∙ ap (orderCause verts f) e ∙ b)
 
 -- 6004799503160661 · 2⁻⁵⁵ is the double nearest 1/6
 sixth : fin false 6004799503160661 (negsuc 54) ≡ round binary64 false 1 6
@@ -86,42 +86,42 @@ volume-T : volume verts T ≡ fin false 6004799503160661 (negsuc 54)
 unfolding verts volume Fold faceVolume normal difference dot cross ofBits add sub mul div round
 volume-T = refl
 
-answer-T : checkMesh verts T 12 ≡ Mesh.Volume (round binary64 false 1 6)
+answer-T : checkMesh verts T 12 ≡ Solid.Volume (round binary64 false 1 6)
 answer-T =
     through T (3 ∷ 0 ∷ 6 ∷ 2 ∷ 9 ∷ 4 ∷ 8 ∷ 1 ∷ 10 ∷ 5 ∷ 11 ∷ 7 ∷ []) None (unfold orderList edge key in refl)
-    (unfold verts meshCause malformed tooMany tooShort outOfLimits noSuchVertex orderCause firstOf withinLimits finite abs ofBits le in refl)
-    (unfold verts orderCause flippedEdge openEdge degenerateFace inverted firstOf occurrences volume Fold faceVolume normal isZero difference dot cross ofBits add sub mul div lt eq round in refl)
-    ∙ ap {B = Mesh} Mesh.Volume (volume-T ∙ sixth)
+    (unfold verts meshCause countCause surfaceCause malformed tooMany tooShort outOfLimits noSuchVertex firstOf withinLimits finite abs ofBits le in refl)
+    (unfold verts orderCause facesCause flippedEdge openEdge degenerateFace inverted firstOf occurrences volume Fold faceVolume normal isZero difference dot cross ofBits add sub mul div lt eq round in refl)
+    ∙ ap {B = Solid} Solid.Volume (volume-T ∙ sixth)
 
-answer-exchanged : checkMesh verts exchanged 12 ≡ Mesh.Refused Inverted
+answer-exchanged : checkMesh verts exchanged 12 ≡ Solid.Refused Inverted
 answer-exchanged =
     through exchanged (0 ∷ 6 ∷ 3 ∷ 5 ∷ 1 ∷ 9 ∷ 2 ∷ 11 ∷ 7 ∷ 8 ∷ 4 ∷ 10 ∷ []) (Refused Inverted) (unfold orderList edge key in refl)
-    (unfold verts meshCause malformed tooMany tooShort outOfLimits noSuchVertex orderCause firstOf withinLimits finite abs ofBits le in refl)
-    (unfold verts orderCause flippedEdge openEdge degenerateFace inverted firstOf occurrences volume Fold faceVolume normal isZero difference dot cross ofBits add sub mul div lt eq round in refl)
+    (unfold verts meshCause countCause surfaceCause malformed tooMany tooShort outOfLimits noSuchVertex firstOf withinLimits finite abs ofBits le in refl)
+    (unfold verts orderCause facesCause flippedEdge openEdge degenerateFace inverted firstOf occurrences volume Fold faceVolume normal isZero difference dot cross ofBits add sub mul div lt eq round in refl)
 
-answer-dropped : checkMesh verts dropped 12 ≡ Mesh.Refused (Open 1 3)
+answer-dropped : checkMesh verts dropped 12 ≡ Solid.Refused (Open 1 3)
 answer-dropped =
     through dropped (3 ∷ 0 ∷ 6 ∷ 2 ∷ 4 ∷ 8 ∷ 1 ∷ 5 ∷ 7 ∷ []) (Refused (Open 1 3)) (unfold orderList edge key in refl)
-    (unfold verts meshCause malformed tooMany tooShort outOfLimits noSuchVertex orderCause firstOf withinLimits finite abs ofBits le in refl)
+    (unfold verts meshCause countCause surfaceCause malformed tooMany tooShort outOfLimits noSuchVertex firstOf withinLimits finite abs ofBits le in refl)
     (unfold orderCause flippedEdge openEdge firstOf occurrences in refl)
 
-answer-turned : checkMesh verts turned 12 ≡ Mesh.Refused (Flipped 1 3)
+answer-turned : checkMesh verts turned 12 ≡ Solid.Refused (Flipped 1 3)
 answer-turned =
     through turned (3 ∷ 0 ∷ 6 ∷ 2 ∷ 4 ∷ 9 ∷ 8 ∷ 1 ∷ 11 ∷ 5 ∷ 7 ∷ 10 ∷ []) (Refused (Flipped 1 3)) (unfold orderList edge key in refl)
-    (unfold verts meshCause malformed tooMany tooShort outOfLimits noSuchVertex orderCause firstOf withinLimits finite abs ofBits le in refl)
+    (unfold verts meshCause countCause surfaceCause malformed tooMany tooShort outOfLimits noSuchVertex firstOf withinLimits finite abs ofBits le in refl)
     (unfold orderCause flippedEdge firstOf occurrences in refl)
 
-answer-single : checkMesh verts single 12 ≡ Mesh.Refused (Degenerate 0)
-answer-single =
-    through single (0 ∷ 1 ∷ 2 ∷ []) (Refused (Degenerate 0)) (unfold orderList edge key in refl)
-    (unfold verts meshCause malformed tooMany tooShort outOfLimits noSuchVertex orderCause firstOf withinLimits finite abs ofBits le in refl)
-    (unfold verts orderCause flippedEdge openEdge degenerateFace firstOf occurrences normal isZero difference cross ofBits sub mul eq round in refl)
+answer-one-face : checkMesh verts oneFace 12 ≡ Solid.Refused (Degenerate 0)
+answer-one-face =
+    through oneFace (0 ∷ 1 ∷ 2 ∷ []) (Refused (Degenerate 0)) (unfold orderList edge key in refl)
+    (unfold verts meshCause countCause surfaceCause malformed tooMany tooShort outOfLimits noSuchVertex firstOf withinLimits finite abs ofBits le in refl)
+    (unfold verts orderCause facesCause flippedEdge openEdge degenerateFace firstOf occurrences normal isZero difference cross ofBits sub mul eq round in refl)
 
-answer-empty : checkMesh verts [] 12 ≡ Mesh.Refused Inverted
+answer-empty : checkMesh verts [] 12 ≡ Solid.Refused Inverted
 answer-empty =
     through [] [] (Refused Inverted) (unfold orderList in refl)
-    (unfold verts meshCause malformed tooMany tooShort outOfLimits noSuchVertex orderCause firstOf withinLimits finite abs ofBits le in refl)
-    (unfold orderCause flippedEdge openEdge degenerateFace inverted firstOf volume Fold ofBits lt in refl)
+    (unfold verts meshCause countCause surfaceCause malformed tooMany tooShort outOfLimits noSuchVertex firstOf withinLimits finite abs ofBits le in refl)
+    (unfold orderCause facesCause flippedEdge openEdge degenerateFace inverted firstOf volume Fold ofBits lt in refl)
 
 order-T : orderList T ≡ 3 ∷ 0 ∷ 6 ∷ 2 ∷ 9 ∷ 4 ∷ 8 ∷ 1 ∷ 10 ∷ 5 ∷ 11 ∷ 7 ∷ []
 unfolding orderList edge key
@@ -131,11 +131,11 @@ mates-T : mates T ≡ 8 ∷ 9 ∷ 3 ∷ 2 ∷ 11 ∷ 6 ∷ 5 ∷ 10 ∷ 0 ∷ 1 
 unfolding mates mate edge reverse
 mates-T = refl
 
-pub reference : questions ≡ answers
-unfolding questions answers
+pub reference : meshQuestions ≡ meshAnswers
+unfolding meshQuestions meshAnswers
 reference =
     ap₂ _∷_ (ap mesh answer-T)
     (ap₂ _∷_ (ap mesh answer-exchanged)
     (ap₂ _∷_ (ap uses order-T)
     (ap₂ _∷_ (ap uses mates-T)
-    (ap₂ _∷_ (ap mesh answer-dropped) (ap₂ _∷_ (ap mesh answer-turned) (ap₂ _∷_ (ap mesh answer-single) (ap₂ _∷_ (ap mesh answer-empty) refl)))))))
+    (ap₂ _∷_ (ap mesh answer-dropped) (ap₂ _∷_ (ap mesh answer-turned) (ap₂ _∷_ (ap mesh answer-one-face) (ap₂ _∷_ (ap mesh answer-empty) refl)))))))

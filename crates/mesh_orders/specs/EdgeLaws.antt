@@ -1,4 +1,6 @@
--- Laws of edges: the number of an edge tells it from every other and is ordered as (from, to), and so is the key as (from, to, use); an edge that occurs is the edge of a use. Assumes nothing.
+-- Laws of edges. States: `number-apart`, `number-order`, `order-number`: the number of an edge tells it from every other and is ordered as (from, to); `use-key-apart`, `key-order`,
+-- `order-key`: so does the key with (from, to, use); `occurs-some`, `some-use`: an edge that occurs is the edge of a use; `edge-one`: it occurs once if no other use has it.
+-- Assumes nothing.
 use mathlib.Core.Path.{_≡_, refl, ap₂, sym, _∙_}
 use mathlib.Core.Bool.{Bool, true, false, _&&_}
 use mathlib.Core.List.{List}
@@ -99,9 +101,9 @@ module _ (f : List ℕ) where
         (λ w wl t. n w wl (has-number w (from f u) (to f u) t ∙ sym (edge-self u)))
 
     -- keys tell edge uses apart, and are ordered as (from, to, use)
-    pub key-apart : (u w : ℕ) → u < length f → w < length f → key f u ≡ key f w → u ≡ w
+    pub use-key-apart : (u w : ℕ) → u < length f → w < length f → key f u ≡ key f w → u ≡ w
     unfolding key
-    key-apart u w ul wl e = omega (arith, h .few)
+    use-key-apart u w ul wl e = omega (arith, h .few)
 
     pub key-order : (u w : ℕ) → u < length f → w < length f → key f u < key f w
         → Before (from f u) (to f u) (from f w) (to f w) ⊎ ((from f u ≡ from f w) × (to f u ≡ to f w) × (u < w))

@@ -1,4 +1,5 @@
--- Laws of mates: a mate is a use and the reverse, exactly where the reverse occurs; where it occurs once, no other use is the mate. Assumes nothing.
+-- Laws of mates. States: `mate-occurs`, `occurs-mate`: there is a mate exactly where the reverse occurs; `mate-reverse`: it is the reverse; `mate-only`: where the reverse occurs once,
+-- no other use is; `search-found`, `search-none`: a binary search of the order list finds it. Assumes nothing.
 use mathlib.Core.Path.{_≡_, sym, ap, _∙_}
 use mathlib.Core.Bool.{true}
 use mathlib.Core.List.{List}
@@ -9,10 +10,10 @@ use native.Mathlib.Omega.{arith}
 use lib.ListN.{length, getD}
 use lib.Dec.{eqb}
 use borrow.Author.Tests.{eq-eqb, ne-eqb, eqb-true, eqb-false}
+use Rattle.lists.specs.Sort.{LowerBound}
 use Rattle.lists.specs.First.{IsFirst}
 use Rattle.lists.proofs.Numbers.{same?, below?}
 use Rattle.lists.proofs.Firsts.{first-is, first-unique}
-use Rattle.lists.proofs.Searching.{Lower}
 use Rattle.mesh_orders.specs.Edges.{from, to, has, occurrences, edge, reverse, Faces}
 use Rattle.mesh_orders.specs.Order.{key, orderList}
 use Rattle.mesh_orders.specs.Mates.{mate}
@@ -66,7 +67,7 @@ module _ (f : List ℕ) (u : ℕ) where
         (λ k l q. omega (arith, o, occurs-two f (to f u) (from f u) k w l wl (has-reverse k q) (has-reverse w e)))
 
     -- the first place of the order list whose edge is at least the reverse: the mate stands there, or nowhere
-    module _ (r : ℕ) (lo : Lower (edge f) (orderList f) (reverse f u) r) where
+    module _ (r : ℕ) (lo : LowerBound (edge f) (orderList f) (reverse f u) r) where
       at-place : (k : ℕ) → k < length f → edge f k ≡ reverse f u → (p : ℕ) × (r ≤ p) × (p < length f) × (getD (orderList f) p 0 ≡ k)
       at-place k kl q =
           let p = place f k kl in (

@@ -2,8 +2,7 @@
 ghost use mathlib.Core.Path.{_≡_};
 ghost use Prim.Native.Nat.{_<_};
 ghost use lib.ListN.{length};
-ghost use Rattle.lists.specs.Sort.{Sorted};
-ghost use Rattle.lists.proofs.Searching.{Lower};
+ghost use Rattle.lists.specs.Sort.{Sorted, LowerBound};
 ghost use Rattle.mesh_orders.specs.Edges.{edge, Faces};
 ghost use Rattle.mesh_orders.specs.Order.{orderList, Uses};
 ghost use Rattle.mesh_orders.specs.Mates.{mate};
@@ -13,7 +12,7 @@ use crate::edges::reverse;
 // The first place of the order list whose edge is at least e.
 fn lower(faces: &[u32], order: &[u32], e: u64) -> usize
     requires { ⌜ Uses (now faces) (now order) × Sorted (edge (now faces)) (now order) ⌝ }
-    ensures { λ r. ⌜ Lower (edge (now (faces .entry))) (now (order .entry)) e r ⌝ }
+    ensures { λ r. ⌜ LowerBound (edge (now (faces .entry))) (now (order .entry)) e r ⌝ }
 {
     let mut lo = 0;
     let mut hi = order.len();

@@ -1,4 +1,5 @@
--- A loop that counts up: step (n - 1) after .. after step 1 after step 0. Sums are folds, so that their order of roundings is the loop's. Assumes nothing.
+-- A loop that counts up: step (n - 1) after .. after step 1 after step 0. Sums are folds, so that their order of roundings is the loop's. States: `fold-none` and
+-- `fold-more`: what no turn and one turn more give. Assumes nothing.
 use mathlib.Core.Path.{_≡_, refl}
 use Prim.Native.Nat.{ℕ, zero, suc, _+_}
 use native.Mathlib.Numerals.{add-one}

@@ -1,5 +1,5 @@
--- Vectors of three doubles, and fields: at unit Gρ the potential V = ∫dV/r, its gradient, which is the attraction, and its Hessian, the gravity-gradient tensor. Each
--- operation is rounded, and sums go from left to right, as in the Rust. Definitions only.
+-- Vectors of three doubles, and fields: at unit Gρ the potential, which is the integral of 1/r over the body's volume, its gradient, which is the attraction, and its
+-- Hessian, the gravity-gradient tensor. Each operation is rounded, and sums go from left to right, as in the Rust. Definitions only.
 use mathlib.Core.Bool.{Bool, _&&_}
 use mathlib.Core.List.{List, [], _∷_}
 use Prim.Native.Nat.{ℕ}
@@ -59,7 +59,7 @@ zeroField =
 
 -- refusal 3's test of a vector
 unfoldable pub vectorWithinLimits : Vector → Bool
-vectorWithinLimits v = withinLimits (v .x) && (withinLimits (v .y) && withinLimits (v .z))
+vectorWithinLimits v = withinLimits (v .x) && withinLimits (v .y) && withinLimits (v .z)
 
 -- ---- the numbers in order
 

@@ -1,7 +1,8 @@
-// The field record; a field or its refusal; vectors of three doubles.
+// The field record; a field or its refusal; vectors of three doubles; a mass point's field.
 use refusals::Refusal;
 ghost use mathlib.Core.Path.{_≡_};
 ghost use Rattle.newtonian.specs.Vectors.{difference, dot, norm, cross, over, diagonal, addVectors, addFields, zeroField, vectorWithinLimits, fieldNumbers};
+ghost use Rattle.newtonian.specs.Point.{addPointGradient, addPointRow, addPoint};
 
 // How many numbers a field has.
 pub const FIELD_SIZE: usize = 13;
@@ -139,11 +140,53 @@ pub fn zero_field() -> Newtonian
     }
 }
 
+fn add_point_gradient(g: Vector, w: f64, d: Vector, q: f64) -> Vector
+    ensures { λ r. ⌜ r ≡ addPointGradient g w d q ⌝ }
+{
+    Vector {
+        x: g.x + w * d.x / q,
+        y: g.y + w * d.y / q,
+        z: g.z + w * d.z / q,
+    }
+}
+
+fn add_point_row(t: Vector, w: f64, u: f64, d: Vector, e: Vector, q: f64) -> Vector
+    ensures { λ r. ⌜ r ≡ addPointRow t w u d e q ⌝ }
+{
+    Vector {
+        x: t.x + w * (3.0 * u * d.x - e.x) / q,
+        y: t.y + w * (3.0 * u * d.y - e.y) / q,
+        z: t.z + w * (3.0 * u * d.z - e.z) / q,
+    }
+}
+
+// The sums f with the terms of a mass point at d from the station, of weight w.
+pub fn add_point(w: f64, d: Vector, f: Newtonian) -> Newtonian
+    ensures { λ r. ⌜ r ≡ addPoint w d f ⌝ }
+{
+    let r2 = dot(d, d);
+    let r = roots::root(r2);
+    let r5 = r2 * r2 * r;
+    let e = diagonal(r2);
+    let ex = e.x;
+    let ey = e.y;
+    let ez = e.z;
+    Newtonian {
+        potential: f.potential + w / r,
+        gradient: add_point_gradient(f.gradient, w, d, r2 * r),
+        hessian: Hessian {
+            x: add_point_row(f.hessian.x, w, d.x, d, ex, r5),
+            y: add_point_row(f.hessian.y, w, d.y, d, ey, r5),
+            z: add_point_row(f.hessian.z, w, d.z, d, ez, r5),
+        },
+    }
+}
+
 // Refusal 3's test of a vector.
 pub fn vector_within_limits(v: Vector) -> bool
     ensures { λ r. ⌜ r ≡ vectorWithinLimits v ⌝ }
 {
-    doubles::within_limits(v.x) & (doubles::within_limits(v.y) & doubles::within_limits(v.z))
+    doubles::within_limits(v.x) & doubles::within_limits(v.y) & doubles::within_limits(v.z)
 }
 
 // A field's numbers: the potential, the gradient, and the Hessian row by row.

@@ -6,13 +6,14 @@ ghost use Rattle.sheet.specs.Bytes.{trailerLength};
 ghost use Rattle.sheet.specs.Checker.{verdict, rowsPart, rowPart};
 ghost use Rattle.sheet.specs.Promises.{Right};
 ghost use Rattle.sheet.specs.declared.Verdict.the-variants.{Accepted};
-ghost use Rattle.writer.specs.Written.{Writes};
 ghost use Rattle.physica_lent.specs.Exported.{itself, GivesValues};
-ghost use Rattle.physica_lent.specs.Sheets.{writtenAnswer, verdictAnswer, sheetInput, writeSheet, rowCount, rowAfter};
+ghost use Rattle.physica_lent.specs.Sheets.{verdictAnswer, sheetInput, WritesLent, numbersGiven, rowAfter};
 use physica_lent::give::give_verdict;
 use physica_lent::give::give_written;
 use physica_lent::take::row_numbers;
 use physica_lent::take::vector_of;
+use sheet_rows::kinds::PLAIN_BYTES;
+use sheet_rows::kinds::PLAIN_WIDTH;
 
 // Writes the sheet of a body and of the stations into the front of out; size is its length: 1, 2, 12, 3, 4, 5 to 8 or
 // 9, then by station 10 or 11, 13.
@@ -29,8 +30,8 @@ pub extern "C" fn physica_write_sheet(
     size: &mut usize,
     values: &mut [u32; 2],
 ) -> u32
-    ensures { λ r. ⌜ GivesValues itself (writtenAnswer (writeSheet (sheetInput kind (now (verts .entry)) (now (faces .entry)) (now (magnetisation .entry)) (now (ambient .entry)) (now (stations .entry))) (length (now (work .entry))) (length (now (out .entry))))) r (now (size .entry)) (now (size .exit)) (now (values .exit)) ⌝ }
-    ensures lent { λ _. ⌜ Writes (sheetInput kind (now (verts .entry)) (now (faces .entry)) (now (magnetisation .entry)) (now (ambient .entry)) (now (stations .entry))) (now (work .entry)) (now (out .entry)) (writeSheet (sheetInput kind (now (verts .entry)) (now (faces .entry)) (now (magnetisation .entry)) (now (ambient .entry)) (now (stations .entry))) (length (now (work .entry))) (length (now (out .entry)))) (now (work .exit)) (now (out .exit)) ⌝ }
+    ensures { λ r. ⌜ WritesLent (sheetInput kind (now (verts .entry)) (now (faces .entry)) (now (magnetisation .entry)) (now (ambient .entry)) (now (stations .entry)))
+        (now (work .entry)) (now (out .entry)) (now (work .exit)) (now (out .exit)) r (now (size .entry)) (now (size .exit)) (now (values .exit)) ⌝ }
 {
     let m = vector_of(magnetisation);
     let b = vector_of(ambient);
@@ -65,19 +66,17 @@ pub extern "C" fn physica_sheet_rows(sheet: &[u8]) -> usize
     rows.len()
 }
 
-const ROW_LENGTH: usize = 64;
-
-// The eight numbers of row i, and 8; or 0 where there is none.
+// The eight numbers that every kind's row begins with, of row i, and 8; or 0 where there is none.
 #[no_mangle]
-pub extern "C" fn physica_sheet_row(sheet: &[u8], i: usize, out: &mut [f64; 8]) -> usize
-    ensures count { λ r. ⌜ r ≡ rowCount (rowPart (now (sheet .entry)) i) ⌝ }
+pub extern "C" fn physica_sheet_row(sheet: &[u8], i: usize, out: &mut [f64; PLAIN_WIDTH]) -> usize
+    ensures count { λ r. ⌜ r ≡ numbersGiven (rowPart (now (sheet .entry)) i) ⌝ }
     ensures out { λ _. ⌜ now (out .exit) ≡ rowAfter (rowPart (now (sheet .entry)) i) (now (out .entry)) ⌝ }
 {
     let row = sheet_readers::sheet_row(sheet, i);
-    if row.len() < ROW_LENGTH {
+    if row.len() < PLAIN_BYTES {
         return 0;
     }
     let numbers = row_numbers(row);
     *out = numbers;
-    8
+    PLAIN_WIDTH
 }

@@ -12,7 +12,7 @@ use anomaly::NumberAnswer;
 use anomaly::VectorAnswer;
 use carlson::Integral;
 use legendre::Rule;
-use mesh::Mesh;
+use mesh::Solid;
 use newtonian::Field;
 use refusals::Cause;
 use refusals::Refusal;
@@ -145,16 +145,16 @@ pub fn give_field(a: Field, out: &mut [f64; 13], values: &mut [u32; 2]) -> u32
     }
 }
 
-pub fn give_volume(a: Mesh, out: &mut f64, values: &mut [u32; 2]) -> u32
+pub fn give_volume(a: Solid, out: &mut f64, values: &mut [u32; 2]) -> u32
     ensures { λ n. ⌜ GivesValues itself (check.answerOf a) n (now (out .entry)) (now (out .exit)) (now (values .exit)) ⌝ }
 {
     match a {
-        Mesh::Volume(x) => {
+        Solid::Volume(x) => {
             *out = x;
             *values = [0, 0];
             0
         }
-        Mesh::Refused(r) => {
+        Solid::Refused(r) => {
             let v = values_of(r);
             *values = v;
             number(r)

@@ -1,12 +1,14 @@
 // Vectors and matrices from lent numbers, and a row's numbers from lent bytes.
 ghost use mathlib.Core.Path.{_≡_};
-ghost use Prim.Native.Nat.{_≤_};
+ghost use Prim.Native.Nat.{_*_, _≤_};
 ghost use lib.ListN.{length};
 ghost use Rattle.sheet_layout.specs.LittleEndian.{unpack, doubles};
+ghost use Rattle.sheet_rows.specs.Kinds.{plainWidth};
 ghost use Rattle.physica_lent.specs.Exported.{vectorOf, hessianOf};
 use newtonian::Hessian;
 use newtonian::Vector;
 use sheet_layout::f64_at;
+use sheet_rows::kinds::PLAIN_WIDTH;
 
 pub fn vector_of(v: &[f64; 3]) -> Vector
     ensures { λ r. ⌜ r ≡ vectorOf (now (v .entry)) ⌝ }
@@ -41,10 +43,10 @@ pub fn hessian_of(t: &[f64; 9]) -> Hessian
     }
 }
 
-// The numbers of a row of a sheet.
-pub fn row_numbers(row: &[u8]) -> [f64; 8]
-    requires { ⌜ 64 ≤ length (now row) ⌝ }
-    ensures { λ r. ⌜ r ≡ doubles (unpack 8 8 (now (row .entry)) 0) ⌝ }
+// The numbers that every kind's row begins with.
+pub fn row_numbers(row: &[u8]) -> [f64; PLAIN_WIDTH]
+    requires { ⌜ 8 * plainWidth ≤ length (now row) ⌝ }
+    ensures { λ r. ⌜ r ≡ doubles (unpack 8 plainWidth (now (row .entry)) 0) ⌝ }
 {
     let v = f64_at(row, 0);
     let gx = f64_at(row, 8);

@@ -18,15 +18,15 @@ use Rattle.newtonian.specs.declared.Newtonian.{Newtonian}
 use Rattle.mesh_orders.specs.Order.{orderList}
 use Rattle.mesh_orders.specs.OrderLaws.{order-length}
 use Rattle.newtonian.specs.Vectors.{vectorWithinLimits}
-use Rattle.mesh.specs.declared.Mesh.{Mesh}
+use Rattle.mesh.specs.declared.Solid.{Solid}
 use Rattle.mesh.specs.Surface.{Body, volume}
 use Rattle.mesh.specs.Accepted.{Counted}
 use Rattle.mesh.specs.CauseLaws.{none-count}
-use Rattle.mesh.specs.Check.{countCause, outOfLimits, surfaceCause, meshCause, meshOf, checkMesh, leavesWork, workAfter}
-use Rattle.mesh_laws.specs.Laws.{checked, mesh-volume, mesh-refused, work-front}
+use Rattle.mesh.specs.Check.{countCause, outOfLimits, surfaceCause, meshCause, solidOf, checkMesh, leavesWork, workAfter}
+use Rattle.mesh_laws.specs.Laws.{checked, solid-volume, solid-refused, work-front}
 use Rattle.mesh_check.proofs.Answers.{not-counted}
 use Rattle.mesh_check.proofs.Work.{early-number, work-early}
-use Rattle.polyhedron.specs.Polyhedron.{stationCause, givenCause, polyhedronCause, polyhedronAt, polyhedron}
+use Rattle.polyhedron.specs.Polyhedron.{stationOutOfLimits, givenCause, polyhedronCause, polyhedronAt, polyhedron}
 
 module _ (p : Vector) (v : List Float) (f w : List ℕ) where
   -- what `polyhedron` owes where it answers a and work holds w′
@@ -48,7 +48,7 @@ module _ (p : Vector) (v : List Float) (f w : List ℕ) where
   unfolding checkMesh
   counts-leave r e =
       let q = not-counted v f w r e in
-      sym (q .1 ∙ ap (λ (c : Cause). workAfter c f w) (mesh-refused (meshCause v f (length w)) (volume v f) r (sym (q .0))))
+      sym (q .1 ∙ ap (λ (c : Cause). workAfter c f w) (solid-refused (meshCause v f (length w)) (volume v f) r (sym (q .0))))
 
   station-leaves : (b : Bool) (r : Refusal) → unless b OutOfLimits ≡ Refused r → leavesWork r ≡ true
   unfolding leavesWork
@@ -63,9 +63,9 @@ module _ (p : Vector) (v : List Float) (f w : List ℕ) where
   given-leaves : (r : Refusal) → givenCause p v f (length w) ≡ Refused r → workAfter (Refused r) f w ≡ w
   unfolding givenCause
   given-leaves r e =
-      in-turn (countCause v f (length w)) (outOfLimits v) (stationCause p) r (workAfter (Refused r) f w ≡ w)
+      in-turn (countCause v f (length w)) (outOfLimits v) (stationOutOfLimits p) r (workAfter (Refused r) f w ≡ w)
       (λ q. counts-leave r q)
-      (λ q. work-early f w r (early-number v r q))
+      (λ q. work-early f w r (early-number v f r q))
       (λ q. work-early f w r (station-leaves (vectorWithinLimits p) r q))
       e
 
@@ -79,7 +79,7 @@ module _ (p : Vector) (v : List Float) (f w : List ℕ) where
   module _ (h : givenCause p v f (length w) ≡ None) where
     pub counted : Counted v f (length w)
     unfolding givenCause
-    counted = none-count v f (length w) (both (countCause v f (length w)) (orElse (outOfLimits v) (stationCause p)) h .0)
+    counted = none-count v f (length w) (both (countCause v f (length w)) (orElse (outOfLimits v) (stationOutOfLimits p)) h .0)
 
     to-surface : polyhedronCause p v f (length w) ≡ surfaceCause v f
     unfolding polyhedronCause
@@ -90,14 +90,14 @@ module _ (p : Vector) (v : List Float) (f w : List ℕ) where
       owed-work = e ∙ sym (ap (λ (c : Cause). workAfter c f w) to-surface)
 
       -- 4 to 8
-      pub not-accepted : (r : Refusal) → meshOf (surfaceCause v f) (volume v f) ≡ Mesh.Refused r → Owed (refused r) w′
-      not-accepted r q = (refuses r (to-surface ∙ mesh-refused (surfaceCause v f) (volume v f) r q) .0, owed-work)
+      pub not-accepted : (r : Refusal) → solidOf (surfaceCause v f) (volume v f) ≡ Solid.Refused r → Owed (refused r) w′
+      not-accepted r q = (refuses r (to-surface ∙ solid-refused (surfaceCause v f) (volume v f) r q) .0, owed-work)
 
-      no-cause : (x : Float) → meshOf (surfaceCause v f) (volume v f) ≡ Mesh.Volume x → surfaceCause v f ≡ None
-      no-cause x q = mesh-volume (surfaceCause v f) (volume v f) x q .0
+      no-cause : (x : Float) → solidOf (surfaceCause v f) (volume v f) ≡ Solid.Volume x → surfaceCause v f ≡ None
+      no-cause x q = solid-volume (surfaceCause v f) (volume v f) x q .0
 
       -- the field, or 11
-      pub success : (x : Float) → meshOf (surfaceCause v f) (volume v f) ≡ Mesh.Volume x → Success w′
+      pub success : (x : Float) → solidOf (surfaceCause v f) (volume v f) ≡ Solid.Volume x → Success w′
       unfolding workAfter polyhedron
       success x q =
           let n = no-cause x q in

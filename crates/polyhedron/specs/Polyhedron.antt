@@ -21,19 +21,19 @@ use Rattle.polyhedron_centroid.specs.Centroid.{centroid, squaredDistance, radiu
 
 -- ---- a mesh that is checked
 
--- so many radii from the centroid the tetrahedra take over
+-- beyond so many radii from the centroid the tetrahedra take over
 abbrev pub polyhedronFar : Float
 polyhedronFar = 5·0
 
--- the distance from the centroid c is above so many times the radius r
+-- p is farther from the centroid c than that many times the radius r
 unfoldable pub isFar : Vector → Vector → Float → Bool
 isFar p c r = lt (polyhedronFar ⊗ r) (Root (squaredDistance p c))
 
--- the field, where c and r are at hand
+-- the field of a checked mesh whose centroid c and radius r are at hand
 unfoldable pub polyhedronFrom : ℕ → Vector → Vector → Float → List Float → List ℕ → Answer Newtonian
 polyhedronFrom i p c r v f = cond (isFar p c r) (value (tetrahedra p c v f)) (edgeFaceSums i p v f)
 
--- the field
+-- the field of a checked mesh
 unfoldable pub polyhedronAt : ℕ → Vector → List Float → List ℕ → Answer Newtonian
 polyhedronAt i p v f =
     let c = centroid v f in
@@ -41,17 +41,18 @@ polyhedronAt i p v f =
 
 -- ---- the public call
 
--- 3, of the station
-abbrev pub stationCause : Vector → Cause
-stationCause p = unless (vectorWithinLimits p) OutOfLimits
+-- 3, for the station
+abbrev pub stationOutOfLimits : Vector → Cause
+stationOutOfLimits p = unless (vectorWithinLimits p) OutOfLimits
 
--- 1, 2, 12, 3 of the vertices and of the station; then 4 to 8
+-- 1, 2, 12, and 3 for the vertices and the station
 unfoldable pub givenCause : Vector → List Float → List ℕ → ℕ → Cause
-givenCause p v f n = orElse (countCause v f n) (orElse (outOfLimits v) (stationCause p))
+givenCause p v f n = orElse (countCause v f n) (orElse (outOfLimits v) (stationOutOfLimits p))
 
+-- 1, 2, 12, 3, then 4 to 8
 unfoldable pub polyhedronCause : Vector → List Float → List ℕ → ℕ → Cause
 polyhedronCause p v f n = orElse (givenCause p v f n) (surfaceCause v f)
 
--- these, then the field or 11. A single point has the station number 0.
+-- the causes 1, 2, 12, 3 and 4 to 8, then the field or 11. A single point has the station number 0.
 unfoldable pub polyhedron : Vector → List Float → List ℕ → ℕ → Answer Newtonian
 polyhedron p v f n = orAnswer (polyhedronCause p v f n) (polyhedronAt 0 p v f)

@@ -1,18 +1,22 @@
--- Laws of the definitions: the field of a checked mesh in terms of its centroid and radius, and which refusals there are. Assumes nothing.
+-- The field of a checked mesh by its centroid and radius, and which refusals the polyhedron's answers have. Assumes nothing. States:
+-- `at-from`: the field is that of `polyhedronFrom` with the mesh's centroid and radius;
+-- `from-refused`, `at-refused`: the field at the station of number i is refused by 11 with the station i alone;
+-- `cause-refused`: the causes before the field are 1 to 8 and 12 (`InputRefusal`);
+-- `polyhedron-refused`: the public call is refused by 1 to 8, by 12, or by 11 with the station 0, and by no other number.
 use mathlib.Core.Path.{_≡_, refl, sym, ap}
 use mathlib.Core.Bool.{Bool, true, false, cond, _&&_}
 use mathlib.Core.List.{List}
 use mathlib.Core.Logic.{_⊎_, inl, inr}
-use Prim.Native.Nat.{ℕ, _/_, _%_, _≤_}
+use Prim.Native.Nat.{ℕ, _%_, _≤_}
 use native.Mathlib.Omega.{arith}
 use lib.Dec.{eqb, leb}
 use lib.ListN.{length}
 use lib.Ieee.{Float}
 use Rattle.refusals.specs.Numbers.{numberOf}
-use Rattle.refusals.specs.Causes.{orElse, unless, firstOf}
+use Rattle.refusals.specs.Causes.{orElse, unless}
 use Rattle.refusals.specs.Answer.{Answer, value, refused, orAnswer}
 use Rattle.refusals.specs.declared.Refusal.{Refusal}
-use Rattle.refusals.specs.declared.Refusal.the-variants.{Malformed, TooMany, OutOfLimits, NoSuchVertex, TooShort, TooManyEdges}
+use Rattle.refusals.specs.declared.Refusal.the-variants.{Malformed, TooMany, OutOfLimits, TooShort, TooManyEdges}
 use Rattle.refusals.specs.declared.Cause.{Cause}
 use Rattle.refusals.specs.declared.Cause.the-variants.{None, Refused}
 use Rattle.newtonian.specs.Vectors.{vectorWithinLimits}
@@ -21,14 +25,13 @@ use Rattle.newtonian.specs.declared.Newtonian.{Newtonian}
 use Rattle.mesh_orders.specs.Edges.{maxVertices, maxFaces}
 use Rattle.mesh_orders.specs.Order.{orderList}
 use Rattle.mesh.specs.Surface.{vertexCount, faceCount}
-use Rattle.mesh.specs.Check.{malformed, tooMany, tooShort, inLimits, outOfLimits, namesVertex, noSuchVertex, flippedEdge, openEdge, degenerateFace, inverted, countCause, surfaceCause}
-use Rattle.mesh_laws.specs.Smallest.{first-fail}
-use Rattle.mesh_laws.specs.Chain.{Only, only-flipped, only-open, only-degenerate, only-inverted}
+use Rattle.mesh.specs.Check.{malformed, tooMany, tooShort, outOfLimits, noSuchVertex, countCause, orderCause, surfaceCause}
+use Rattle.mesh.proofs.CauseNumbers.{Only, NumberWithin, only-limits, only-vertex, only-order}
 use Rattle.polyhedron_on_edge.specs.OnEdge.{edgeLimit}
 use Rattle.polyhedron_tetrahedra.specs.Tetrahedra.{tetrahedra}
 use Rattle.polyhedron_edge_face_sums.specs.EdgeFaceSums.{sumsOf, fieldOf, edgeFaceSums}
 use Rattle.polyhedron_centroid.specs.Centroid.{centroid, radius}
-use Rattle.polyhedron.specs.Polyhedron.{isFar, polyhedronFrom, polyhedronAt, stationCause, givenCause, polyhedronCause, polyhedron}
+use Rattle.polyhedron.specs.Polyhedron.{isFar, polyhedronFrom, polyhedronAt, stationOutOfLimits, givenCause, polyhedronCause, polyhedron}
 
 pub at-from : (i : ℕ) (p : Vector) (v : List Float) (f : List ℕ) → polyhedronAt i p v f ≡ polyhedronFrom i p (centroid v f) (radius (centroid v f) v f) v f
 unfolding polyhedronAt
@@ -58,66 +61,56 @@ at-refused i p v f r e = from-refused i p (centroid v f) (radius (centroid v f) 
 
 -- ---- the public call is refused by 1 to 8, by 12, or by 11 with the station 0
 
-abbrev pub Early : Refusal → Type 0
-Early r = (numberOf r ≤ 8) ⊎ (r ≡ TooShort)
+-- r is one of the refusals 1 to 8 and 12, which come before a field is computed
+abbrev pub InputRefusal : Refusal → Type 0
+InputRefusal r = (numberOf r ≤ 8) ⊎ (r ≡ TooShort)
 
--- c refuses by these alone
-EarlyCause : Cause → Type 0
-EarlyCause c = (r : Refusal) → c ≡ Refused r → Early r
+-- the cause c refuses by these alone
+InputCause : Cause → Type 0
+InputCause c = (r : Refusal) → c ≡ Refused r → InputRefusal r
 
-early-else : (c d : Cause) → EarlyCause c → EarlyCause d → EarlyCause (orElse c d)
-early-else None d p q = q
-early-else (Refused x) d p q = p
+input-else : (c d : Cause) → InputCause c → InputCause d → InputCause (orElse c d)
+input-else None d p q = q
+input-else (Refused x) d p q = p
 
-early-unless : (t : Bool) (s : Refusal) → Early s → EarlyCause (unless t s)
-unfolding EarlyCause
-early-unless true s h r e = absurd (let z : _≡_ {A = ℕ} 0 1 = cc in omega arith)
-early-unless false s h r e = let q : s ≡ r = cc in rw (sym q) h
+input-unless : (t : Bool) (s : Refusal) → InputRefusal s → InputCause (unless t s)
+unfolding InputCause
+input-unless true s h r e = absurd (let z : _≡_ {A = ℕ} 0 1 = cc in omega arith)
+input-unless false s h r e = let q : s ≡ r = cc in rw (sym q) h
 
-early-first : (n : ℕ) (t : ℕ → Bool) (s : ℕ → Refusal) → ((i : ℕ) → numberOf (s i) ≤ 8) → EarlyCause (firstOf n (λ i. unless (t i) (s i)))
-unfolding EarlyCause
-early-first n t s h r e =
-    let g = first-fail t s n r e in
-    inl (omega (arith, h (g .at), ap numberOf (g .refusal)))
-
-early-only : (lo hi : ℕ) (c : Cause) → hi ≤ 8 → Only lo hi c → EarlyCause c
-unfolding EarlyCause
-early-only lo hi c h o r e = inl (omega (arith, o r e .1))
+input-within : (lo hi : ℕ) (c : Cause) → hi ≤ 8 → Only (NumberWithin lo hi) c → InputCause c
+unfolding InputCause
+input-within lo hi c h o r e = inl (omega (arith, o r e .1))
 
 module _ (v : List Float) (f : List ℕ) where
-  early-counts : (n : ℕ) → EarlyCause (countCause v f n)
+  input-counts : (n : ℕ) → InputCause (countCause v f n)
   unfolding countCause malformed tooMany tooShort
-  early-counts n =
-      early-else (malformed v f) (orElse (tooMany v f) (tooShort f n)) (early-unless (eqb (length v % 3) 0 && eqb (length f % 3) 0) Malformed (inl (omega arith)))
-      (early-else (tooMany v f) (tooShort f n) (early-unless (leb (vertexCount v) maxVertices && leb (faceCount f) maxFaces) TooMany (inl (omega arith)))
-      (early-unless (leb (length f) n) TooShort (inr refl)))
+  input-counts n =
+      input-else (malformed v f) (orElse (tooMany v f) (tooShort f n)) (input-unless (eqb (length v % 3) 0 && eqb (length f % 3) 0) Malformed (inl (omega arith)))
+      (input-else (tooMany v f) (tooShort f n) (input-unless (leb (vertexCount v) maxVertices && leb (faceCount f) maxFaces) TooMany (inl (omega arith)))
+      (input-unless (leb (length f) n) TooShort (inr refl)))
 
-  early-numbers : EarlyCause (outOfLimits v)
-  unfolding outOfLimits
-  early-numbers = early-first (length v) (inLimits v) (λ i. OutOfLimits) (λ i. omega arith)
+  input-numbers : InputCause (outOfLimits v)
+  input-numbers = input-within 3 3 (outOfLimits v) (omega arith) (only-limits v f)
 
-  early-surface : EarlyCause (surfaceCause v f)
-  unfolding surfaceCause noSuchVertex
-  early-surface =
-      let o = orderList f in
-      early-else (noSuchVertex (vertexCount v) f) (orElse (flippedEdge f o) (orElse (openEdge f o) (orElse (degenerateFace v f) (inverted v f))))
-      (early-first (length f) (namesVertex (vertexCount v) f) (λ i. NoSuchVertex (i / 3)) (λ i. omega arith))
-      (early-else (flippedEdge f o) (orElse (openEdge f o) (orElse (degenerateFace v f) (inverted v f))) (early-only 5 5 (flippedEdge f o) (omega arith) (only-flipped v f o))
-      (early-else (openEdge f o) (orElse (degenerateFace v f) (inverted v f)) (early-only 6 6 (openEdge f o) (omega arith) (only-open v f o))
-      (early-else (degenerateFace v f) (inverted v f) (early-only 7 7 (degenerateFace v f) (omega arith) (only-degenerate v f)) (early-only 8 8 (inverted v f) (omega arith) (only-inverted v f)))))
+  input-surface : InputCause (surfaceCause v f)
+  unfolding surfaceCause
+  input-surface =
+      input-else (noSuchVertex (vertexCount v) f) (orderCause v f (orderList f)) (input-within 4 4 (noSuchVertex (vertexCount v) f) (omega arith) (only-vertex v f))
+      (input-within 5 8 (orderCause v f (orderList f)) (omega arith) (only-order v f (orderList f)))
 
-  pub cause-refused : (p : Vector) (n : ℕ) (r : Refusal) → polyhedronCause p v f n ≡ Refused r → Early r
-  unfolding polyhedronCause givenCause EarlyCause
+  pub cause-refused : (p : Vector) (n : ℕ) (r : Refusal) → polyhedronCause p v f n ≡ Refused r → InputRefusal r
+  unfolding polyhedronCause givenCause InputCause
   cause-refused p n =
-      early-else (givenCause p v f n) (surfaceCause v f)
-      (early-else (countCause v f n) (orElse (outOfLimits v) (stationCause p)) (early-counts n)
-      (early-else (outOfLimits v) (stationCause p) early-numbers (early-unless (vectorWithinLimits p) OutOfLimits (inl (omega arith)))))
-      early-surface
+      input-else (givenCause p v f n) (surfaceCause v f)
+      (input-else (countCause v f n) (orElse (outOfLimits v) (stationOutOfLimits p)) (input-counts n)
+      (input-else (outOfLimits v) (stationOutOfLimits p) input-numbers (input-unless (vectorWithinLimits p) OutOfLimits (inl (omega arith)))))
+      input-surface
 
-  in-order : (c : Cause) (a : Answer Newtonian) (r : Refusal) → (c ≡ Refused r → Early r) → (a ≡ refused r → r ≡ TooManyEdges 0) → orAnswer c a ≡ refused r → Early r ⊎ (r ≡ TooManyEdges 0)
-  in-order None a r h g e = inr (g e)
-  in-order (Refused x) a r h g e = let q : Refused x ≡ Refused r = cc in inl (h q)
+  polyhedron-in-order : (c : Cause) (a : Answer Newtonian) (r : Refusal) → (c ≡ Refused r → InputRefusal r) → (a ≡ refused r → r ≡ TooManyEdges 0) → orAnswer c a ≡ refused r → InputRefusal r ⊎ (r ≡ TooManyEdges 0)
+  polyhedron-in-order None a r h g e = inr (g e)
+  polyhedron-in-order (Refused x) a r h g e = let q : Refused x ≡ Refused r = cc in inl (h q)
 
-  pub polyhedron-refused : (p : Vector) (n : ℕ) (r : Refusal) → polyhedron p v f n ≡ refused r → Early r ⊎ (r ≡ TooManyEdges 0)
+  pub polyhedron-refused : (p : Vector) (n : ℕ) (r : Refusal) → polyhedron p v f n ≡ refused r → InputRefusal r ⊎ (r ≡ TooManyEdges 0)
   unfolding polyhedron
-  polyhedron-refused p n r e = in-order (polyhedronCause p v f n) (polyhedronAt 0 p v f) r (cause-refused p n r) (at-refused 0 p v f r) e
+  polyhedron-refused p n r e = polyhedron-in-order (polyhedronCause p v f n) (polyhedronAt 0 p v f) r (cause-refused p n r) (at-refused 0 p v f r) e

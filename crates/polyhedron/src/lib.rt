@@ -1,5 +1,5 @@
 // The field of a closed polyhedron of triangles.
-use mesh::Mesh;
+use mesh::Solid;
 use newtonian::Field;
 use newtonian::Vector;
 use refusals::Cause;
@@ -9,11 +9,11 @@ ghost use lib.ListN.{length};
 ghost use Rattle.newtonian.specs.Field.{answerOf};
 ghost use Rattle.mesh_orders.specs.Order.{orderList};
 ghost use Rattle.mesh.specs.Surface.{Body};
-ghost use Rattle.polyhedron_edge_face_sums.specs.Logarithms.{Mated};
+ghost use Rattle.polyhedron_edge_face_sums.specs.KeptLogarithms.{Mated};
 ghost use Rattle.mesh.specs.Check.{workAfter};
 ghost use Rattle.polyhedron.specs.Polyhedron.{isFar, polyhedronFrom, polyhedronAt, givenCause, polyhedronCause, polyhedron};
 
-// So many radii from the centroid the tetrahedra take over.
+// Beyond so many radii from the centroid the tetrahedra take over.
 const POLYHEDRON_FAR: f64 = 5.0;
 
 // Whether the tetrahedra take over at p, for the centroid c and the radius r.
@@ -87,7 +87,7 @@ pub fn polyhedron(station: Vector, verts: &[f64], faces: &[u32], work: &mut [u32
         return Field::Refused(r);
     }
     let surface = mesh_check::check_surface(verts, faces, work);
-    if let Mesh::Refused(r) = surface {
+    if let Solid::Refused(r) = surface {
         return Field::Refused(r);
     }
     let n = faces.len();

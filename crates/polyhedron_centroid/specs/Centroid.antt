@@ -6,13 +6,13 @@ use mathlib.Core.List.{List}
 use lib.Dec.{leb}
 use lib.IntN.{pos}
 use lib.Ieee.{Float, binary64, ofInt}
-use Rattle.doubles.specs.Rounded.{_⊕_, _⊗_, _⊘_}
+use Rattle.doubles.specs.Rounded.{_⊕_, _⊗_}
 use Rattle.doubles.specs.Constants.{0·0, -0·0}
 use Rattle.doubles.specs.Magnitude.{max}
 use Rattle.roots.specs.Root.{Root}
 use Rattle.lists.specs.Count.{count}
 use Rattle.newtonian.specs.Fold.{Fold}
-use Rattle.newtonian.specs.Vectors.{difference, addVectors}
+use Rattle.newtonian.specs.Vectors.{difference, over, addVectors}
 use Rattle.newtonian.specs.declared.Vector.{Vector}
 use Rattle.mesh.specs.Surface.{vertexCount, vertex}
 use Rattle.polyhedron_centroid.specs.declared.Tally.{Tally}
@@ -39,13 +39,11 @@ addVertex v i t = record { count = t .count + 1; sum = addVectors (t .sum) (vert
 unfoldable pub tallyUsed : List Float → List ℕ → Tally
 tallyUsed v f = overUsed f (vertexCount v) (addVertex v) noTally
 
-unfoldable pub mean : Tally → Vector
-mean t =
-    let n = ofInt binary64 (pos (t .count)) in
-    record { x = t .sum .x ⊘ n; y = t .sum .y ⊘ n; z = t .sum .z ⊘ n }
+unfoldable pub tallyMean : Tally → Vector
+tallyMean t = over (t .sum) (ofInt binary64 (pos (t .count)))
 
 unfoldable pub centroid : List Float → List ℕ → Vector
-centroid v f = mean (tallyUsed v f)
+centroid v f = tallyMean (tallyUsed v f)
 
 -- ---- the radius: the greatest distance of a used vertex from c
 

@@ -5,7 +5,7 @@ ghost use Rattle.doubles.specs.Constants.{0·0};
 ghost use Rattle.mesh_orders.specs.Edges.{maxFaces};
 ghost use Rattle.mesh_orders.specs.Order.{orderList};
 ghost use Rattle.mesh.specs.Surface.{Body, vertexCount};
-ghost use Rattle.polyhedron_centroid.specs.Centroid.{overUsed, noTally, addVertex, tallyUsed, mean, centroid, squaredDistance, farther, radius};
+ghost use Rattle.polyhedron_centroid.specs.Centroid.{overUsed, noTally, addVertex, tallyUsed, tallyMean, centroid, squaredDistance, farther, radius};
 use newtonian::Vector;
 use newtonian::difference;
 
@@ -31,11 +31,7 @@ fn add_vertex(verts: &[f64], i: u32, t: Tally) -> Tally
     ensures { λ r. ⌜ r ≡ addVertex (now (verts .entry)) i t ⌝ }
 {
     let q = mesh::surface::vertex(verts, i);
-    let sum = Vector {
-        x: t.sum.x + q.x,
-        y: t.sum.y + q.y,
-        z: t.sum.z + q.z,
-    };
+    let sum = newtonian::add_vectors(t.sum, q);
     Tally {
         count: t.count + 1,
         sum,
@@ -61,15 +57,10 @@ fn tally_used(verts: &[f64], faces: &[u32], order: &[u32]) -> Tally
     t
 }
 
-fn mean(t: Tally) -> Vector
-    ensures { λ r. ⌜ r ≡ mean t ⌝ }
+fn tally_mean(t: Tally) -> Vector
+    ensures { λ r. ⌜ r ≡ tallyMean t ⌝ }
 {
-    let n = t.count as f64;
-    Vector {
-        x: t.sum.x / n,
-        y: t.sum.y / n,
-        z: t.sum.z / n,
-    }
+    newtonian::over(t.sum, t.count as f64)
 }
 
 // The mean of the used vertices of a body, by its order list.
@@ -77,7 +68,7 @@ pub fn centroid(verts: &[f64], faces: &[u32], order: &[u32]) -> Vector
     requires { ⌜ Body (now verts) (now faces) × (now order ≡ orderList (now faces)) ⌝ }
     ensures { λ r. ⌜ r ≡ centroid (now (verts .entry)) (now (faces .entry)) ⌝ }
 {
-    mean(tally_used(verts, faces, order))
+    tally_mean(tally_used(verts, faces, order))
 }
 
 // The squared distance of a from c.

@@ -10,7 +10,7 @@ use lib.Ieee.{Float}
 use lib.Ieee.Scale.{finite}
 use lib.ListN.{length}
 use Rattle.polyhedron_edge_face_sums.specs.Carried.{Carries}
-use Rattle.polyhedron_edge_face_sums.specs.EdgeFaceSums.{Sums, addSide, edgeFaceSums, fieldOf, noSums, sumsOf}
+use Rattle.polyhedron_edge_face_sums.specs.EdgeFaceSums.{Sums, addSide, edgeFaceSums, fieldOf, noFaces, sumsOf}
 use Rattle.polyhedron_edge_face_sums.specs.declared.Running.{Running}
 use Rattle.polyhedron_edge_terms.specs.EdgeTerms.{addEdgeTerms, dyad, logarithm, symmetric}
 use Rattle.polyhedron_edge_terms.specs.declared.Corner.{Corner}
@@ -21,7 +21,7 @@ use Rattle.newtonian.specs.declared.Hessian.{Hessian}
 use Rattle.newtonian.specs.declared.Newtonian.{Newtonian}
 use Rattle.newtonian.specs.declared.Vector.{Vector}
 use Rattle.polyhedron_on_edge.proofs.Adding.{held-few}
-use Rattle.polyhedron_on_edge.specs.Block.{Holds}
+use Rattle.polyhedron_on_edge.specs.Block.{HoldsEdges}
 use Rattle.polyhedron_on_edge.specs.OnEdge.{addDyad, addInfinite, edgeKey, edgeLimit}
 use Rattle.refusals.specs.Answer.{refused, value}
 use Rattle.refusals.specs.declared.Refusal.the-variants.{TooManyEdges}
@@ -29,20 +29,20 @@ use Rattle.refusals.specs.declared.Refusal.the-variants.{TooManyEdges}
 module _ (n : Vector) (e : Side) (a b : Corner) (s : Sums) (keys : List ℕ) (dyads : List Float) where
   -- a finite logarithm: the field changes
   pub side-added : finite (logarithm a b (e .length)) ≡ true → (r : Running)
-      → r .field ≡ addEdgeTerms n (e .normal) (logarithm a b (e .length)) (a .r) (s .field) → Holds (s .edges) keys dyads (r .count)
+      → r .field ≡ addEdgeTerms n (e .normal) (logarithm a b (e .length)) (a .r) (s .field) → HoldsEdges (s .edges) keys dyads (r .count)
       → Carries (addSide n e a b s) keys dyads r
   unfolding addSide
   side-added t r f h = simp t (record { field = f; edges = h })
 
-  -- one that is not: the edges change
+  -- a logarithm that is not finite: the edges change
   pub side-through : finite (logarithm a b (e .length)) ≡ false → (r : Running)
-      → r .field ≡ s .field → Holds (addDyad (edgeKey (e .from) (e .to)) (dyad n (e .normal)) (s .edges)) keys dyads (r .count)
+      → r .field ≡ s .field → HoldsEdges (addDyad (edgeKey (e .from) (e .to)) (dyad n (e .normal)) (s .edges)) keys dyads (r .count)
       → Carries (addSide n e a b s) keys dyads r
   unfolding addSide
   side-through t r f h = simp t (record { field = f; edges = h })
 
 -- no faces
-pub carries-none : (keys : List ℕ) (dyads : List Float) (f : Newtonian) → f ≡ zeroField → Carries noSums keys dyads (record { field = f; count = 0 })
+pub carries-none : (keys : List ℕ) (dyads : List Float) (f : Newtonian) → f ≡ zeroField → Carries noFaces keys dyads (record { field = f; count = 0 })
 carries-none keys dyads f q =
     record { field = q; edges = record { many = λ l. absurd (omega arith); few = λ _. refl; entries = λ _ i l. absurd (omega arith) } }
 

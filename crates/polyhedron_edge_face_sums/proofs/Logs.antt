@@ -1,4 +1,4 @@
--- The logarithms that are kept: one more is kept, and that of a use is its mate's. Assumes nothing.
+-- The logarithms that are kept: one more is kept, and the logarithm of a use is its mate's. Assumes nothing.
 use mathlib.Core.Bool.{cond}
 use mathlib.Core.List.{List}
 use mathlib.Core.Logic.{⊎-elim}
@@ -11,7 +11,7 @@ use lib.Ieee.{Float, nan}
 use lib.ListN.{getD, length, length-set, set}
 use lib.Seq.{getD-set-other, getD-set-same}
 use Rattle.polyhedron_edge_face_sums.specs.EdgeFaceSums.{triangleOf}
-use Rattle.polyhedron_edge_face_sums.specs.Logarithms.{Held, Logged, Mated, Sides, useLogarithm}
+use Rattle.polyhedron_edge_face_sums.specs.KeptLogarithms.{Held, Logged, Mated, Sides, useLogarithm}
 use Rattle.polyhedron_edge_terms.proofs.EitherWay.{logarithm-either}
 use Rattle.polyhedron_edge_terms.specs.Corners.{seen, sideOf}
 use Rattle.polyhedron_edge_terms.specs.EdgeTerms.{logarithm}
@@ -32,7 +32,7 @@ module _ (g : ℕ → Float) (logs : List Float) (u : ℕ) (h : Held g logs u) w
   pub held-past : length logs ≤ u → Held g logs (u + 1)
   held-past k j p q = h j (omega arith) q
 
--- what is taken for edge use u: that of its mate w, where w came before, else the computed one
+-- what is taken for edge use u: the logarithm of its mate w, where w came before, else the computed one
 module _ (mates : List ℕ) (logs : List Float) (u w : ℕ) (r : length logs ≡ length mates) (q : length mates ≤ u → w ≡ u) where
   -- a use whose mate came before has a mate
   has-mate : w < u → u < length mates
@@ -58,7 +58,7 @@ module _ (p : Vector) (v : List Float) (f : List ℕ) where
       let b = vertex v (to f u) in
       rw (m .reverse u l .0, m .reverse u l .1) (logarithm-either (seen p b) (seen p a) b a)
 
-  -- that of the edge from the corner at place i of the face list to the one at place j
+  -- the logarithm of the edge from the corner at place i of the face list to the one at place j
   between : ℕ → ℕ → Float
   between i j =
       let a = vertex v (getD f i 0) in

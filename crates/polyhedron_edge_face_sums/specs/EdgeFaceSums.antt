@@ -22,13 +22,14 @@ use Rattle.polyhedron_edge_terms.specs.declared.Corner.{Corner}
 use Rattle.polyhedron_edge_terms.specs.declared.Side.{Side}
 use Rattle.polyhedron_edge_face_sums.specs.declared.Triangle.{Triangle}
 
--- what the faces so far add up to: the field, and the edges through the station in the order in which they are met
+-- what the faces so far add up to: the field, and the edges that gave a logarithm that is not finite, in the order in which they are met
 pub record Sums : Type 0 where
   pub field : Newtonian
   pub edges : List Edge
 
-abbrev pub noSums : Sums
-noSums = record { field = zeroField; edges = [] }
+-- the sums before the first face
+abbrev pub noFaces : Sums
+noFaces = record { field = zeroField; edges = [] }
 
 -- face k: its corners, its unit normal and its sides. None of it depends on the station.
 unfoldable pub triangleOf : List Float → List ℕ → ℕ → Triangle
@@ -42,7 +43,7 @@ triangleOf v f k =
     let n = unit (normal v f k) in
     record { a = a; b = b; c = c; normal = n; ab = sideOf n a b i j; bc = sideOf n b c j l; ca = sideOf n c a l i }
 
--- the sums s with the side e, from a to b, of a face with the unit normal n. Where the logarithm is not finite, the edge passes through the station.
+-- the sums s with the side e, from a to b, of a face with the unit normal n. Where the logarithm is not finite, the field stays, and the dyad goes to the edges.
 unfoldable pub addSide : Vector → Side → Corner → Corner → Sums → Sums
 addSide n e a b s =
     let L = logarithm a b (e .length) in
@@ -60,11 +61,11 @@ addTriangle p t s =
     let face : Sums = record { field = addFaceTerms n (dot n (a .r)) (solidAngle n a b c) (s .field); edges = s .edges } in
     addSide n (t .ca) c a (addSide n (t .bc) b c (addSide n (t .ab) a b face))
 
--- all faces, in order
+-- the sums of all faces, in order
 unfoldable pub sumsOf : Vector → List Float → List ℕ → Sums
-sumsOf p v f = Fold (faceCount f) (λ k. addTriangle p (triangleOf v f k)) noSums
+sumsOf p v f = Fold (faceCount f) (λ k. addTriangle p (triangleOf v f k)) noFaces
 
--- the end: the entries that the edges through the station make infinite, and the mean of the entries (i, j) and (j, i)
+-- the field that the sums s of all faces end in: with the entries that the edges make infinite, and the mean of the entries (i, j) and (j, i)
 unfoldable pub fieldOf : Sums → Newtonian
 fieldOf s = record {
   potential = s .field .potential;
@@ -72,7 +73,7 @@ fieldOf s = record {
   hessian = symmetric (addInfinite (s .edges) (s .field .hessian));
 }
 
--- the field at p, which has the number i among the stations; refused by 11 where more edges than the limit pass through it
+-- the field at p, which has the number i among the stations; refused by 11 where more different edges than the limit give a logarithm that is not finite
 unfoldable pub edgeFaceSums : ℕ → Vector → List Float → List ℕ → Answer Newtonian
 edgeFaceSums i p v f =
     let s = sumsOf p v f in

@@ -1,4 +1,5 @@
--- The field of a polyhedron near it.
+-- The field of a polyhedron near it: EdgeFaceSums. The other files are no part of the definition: they say what the code keeps beside it (Carried, KeptLogarithms), for the contracts of
+-- its inner functions.
 pub mod EdgeFaceSums
 pub mod Carried
-pub mod Logarithms
+pub mod KeptLogarithms

@@ -13,7 +13,7 @@ ghost use Rattle.polyhedron_edge_terms.specs.EdgeTerms.{logarithm};
 ghost use Rattle.polyhedron_edge_terms.specs.declared.Corner.{Corner};
 ghost use Rattle.polyhedron_edge_face_sums.specs.EdgeFaceSums.{Sums, triangleOf, addSide, addTriangle, sumsOf, edgeFaceSums};
 ghost use Rattle.polyhedron_edge_face_sums.specs.Carried.{Carries};
-ghost use Rattle.polyhedron_edge_face_sums.specs.Logarithms.{Held, Logged, Sides, Mated};
+ghost use Rattle.polyhedron_edge_face_sums.specs.KeptLogarithms.{Held, Logged, Sides, Mated};
 use mesh::surface::corner;
 use newtonian::Field;
 use newtonian::Newtonian;
@@ -36,7 +36,7 @@ pub struct Triangle {
     pub ca: Side,
 }
 
-// The field so far, and the number of edges through the station in the lent block.
+// The field so far, and the number of edges in the lent block.
 pub struct Running {
     pub field: Newtonian,
     pub count: usize,
@@ -96,7 +96,8 @@ fn keep(logs: &mut [f64], u: usize, l: f64)
     }
 }
 
-// The logarithm of edge use u, of length e and from a to b. An edge has one logarithm for its two uses; the second takes it from logs, if mates tells which was the first.
+// The logarithm of edge use u, of length e and from a to b. An edge has one logarithm for its two uses; the second takes it
+// from logs, if mates tells which was the first.
 fn logarithm_of(mates: &[u32], logs: &mut [f64], u: usize, e: f64, a: Corner, b: Corner) -> f64
     requires { ⌜ length (now logs) ≡ length (now mates) ⌝ }
     ensures { λ r. ⌜ length (now (logs .exit)) ≡ length (now (logs .entry)) ⌝ }
@@ -201,7 +202,8 @@ fn add_triangles(
     run
 }
 
-// The field at p, which has the number i among the stations. Mates, where they are known, spare half of the logarithms, for which logs is room; both may be empty.
+// The field at p, which has the number i among the stations. Mates, where they are known, spare half of the logarithms, for
+// which logs is room; both may be empty.
 pub fn edge_face_sums(
     i: u32,
     p: Vector,

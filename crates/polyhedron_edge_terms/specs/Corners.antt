@@ -1,16 +1,16 @@
 -- Lengths and directions of the faces and edges of a polyhedron, and its corners as a station sees them, with the roundings in the order of the Rust's `edge_face_sums`. Definitions only.
 use Prim.Native.Nat.{ℕ}
-use Rattle.doubles.specs.Rounded.{_⊘_}
-use Rattle.newtonian.specs.Vectors.{difference, cross, norm}
+use Rattle.newtonian.specs.Vectors.{difference, cross, over, norm}
 use Rattle.newtonian.specs.declared.Vector.{Vector}
 use Rattle.polyhedron_edge_terms.specs.declared.Corner.{Corner}
 use Rattle.polyhedron_edge_terms.specs.declared.Side.{Side}
 
 -- a / |a|
 unfoldable pub unit : Vector → Vector
-unit a = record { x = a .x ⊘ norm a; y = a .y ⊘ norm a; z = a .z ⊘ norm a }
+unit a = over a (norm a)
 
--- the side from a to b of a face with the unit normal n, between the vertices i and j: n̂_e, its unit normal in the face's plane, and its length e. None of it depends on the station.
+-- the side from a to b of a face with the unit normal n, between the vertices i and j: n̂_e, its unit normal in the face's plane, and its length e.
+-- None of it depends on the station.
 unfoldable pub sideOf : Vector → Vector → Vector → ℕ → ℕ → Side
 sideOf n a b i j =
     let edge = difference b a in

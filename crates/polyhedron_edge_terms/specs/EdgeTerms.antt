@@ -4,7 +4,10 @@
 --   ∇V = −Σ_e E_e r_e L_e + Σ_f n̂_f (n̂_f·r_f) ω_f
 --   ∇∇V = Σ_e E_e L_e − Σ_f n̂_f n̂_fᵀ ω_f
 --
--- with the roundings in the order of the Rust, which adds the terms face by face: each of the two faces at an edge adds its own dyad n̂_f n̂_eᵀ of E_e. Definitions only.
+-- over the edges e and the faces f. r_e and r_f go from the station to any point of the edge and of the face's plane. n̂_f is the face's outward unit normal, and n̂_e the unit normal
+-- of an edge in the plane of one of its faces, outward from that face. E_e = n̂_A n̂_eᴬᵀ + n̂_B n̂_eᴮᵀ is a sum over the two faces A and B at the edge. L_e is the edge's logarithm,
+-- below, and ω_f the solid angle that the face subtends (SolidAngle). The roundings are in the order of the Rust, which adds the terms face by face: each of the two faces at an edge
+-- adds its own dyad n̂_f n̂_eᵀ of E_e. Definitions only.
 use mathlib.Core.Bool.{cond}
 use lib.Ieee.{Float, lt}
 use Rattle.doubles.specs.Rounded.{_⊕_, _⊖_, _⊗_, _⊘_}
@@ -26,6 +29,7 @@ gap a b e =
     let c = cross (a .r) (b .r) in
     cond (lt ab 0·0) (2·0 ⊗ dot c c ⊘ ((a .l ⊗ b .l ⊖ ab) ⊗ (sum ⊕ e))) (sum ⊖ e)
 
+-- L_e is infinite on the edge itself. As computed it is not finite wherever the gap comes out as zero, below zero or a NaN; squares that underflow can do that too.
 unfoldable pub logarithm : Corner → Corner → Float → Float
 logarithm a b e = ln ((a .l ⊕ b .l ⊕ e) ⊘ gap a b e)
 
@@ -39,13 +43,15 @@ dyad n m = record {
   z = record { x = n .z ⊗ m .x; y = n .z ⊗ m .y; z = n .z ⊗ m .z };
 }
 
--- u s; t + u w and t − u w
-abbrev pub times : Vector → Float → Vector
-times u s = record { x = u .x ⊗ s; y = u .y ⊗ s; z = u .z ⊗ s }
+-- u s
+abbrev pub vectorTimes : Vector → Float → Vector
+vectorTimes u s = record { x = u .x ⊗ s; y = u .y ⊗ s; z = u .z ⊗ s }
 
+-- t + u w
 abbrev pub addTimes : Vector → Vector → Float → Vector
 addTimes t u w = record { x = t .x ⊕ u .x ⊗ w; y = t .y ⊕ u .y ⊗ w; z = t .z ⊕ u .z ⊗ w }
 
+-- t − u w
 abbrev pub subTimes : Vector → Vector → Float → Vector
 subTimes t u w = record { x = t .x ⊖ u .x ⊗ w; y = t .y ⊖ u .y ⊗ w; z = t .z ⊖ u .z ⊗ w }
 
@@ -55,7 +61,7 @@ addFaceTerms n ρ ω f =
     let d = dyad n n in
     record {
       potential = f .potential ⊖ 0·5 ⊗ ρ ⊗ ρ ⊗ ω;
-      gradient = addTimes (f .gradient) (times n ρ) ω;
+      gradient = addTimes (f .gradient) (vectorTimes n ρ) ω;
       hessian = record { x = subTimes (f .hessian .x) (d .x) ω; y = subTimes (f .hessian .y) (d .y) ω; z = subTimes (f .hessian .z) (d .z) ω };
     }
 
@@ -65,7 +71,7 @@ addEdgeTerms n m L r f =
     let d = dyad n m in
     record {
       potential = f .potential ⊕ 0·5 ⊗ dot n r ⊗ dot m r ⊗ L;
-      gradient = subTimes (f .gradient) (times n (dot m r)) L;
+      gradient = subTimes (f .gradient) (vectorTimes n (dot m r)) L;
       hessian = record { x = addTimes (f .hessian .x) (d .x) L; y = addTimes (f .hessian .y) (d .y) L; z = addTimes (f .hessian .z) (d .z) L };
     }
 

@@ -2,7 +2,7 @@
 ghost use mathlib.Core.Path.{_≡_};
 ghost use Rattle.polyhedron_edge_terms.specs.Corners.{unit, sideOf, seen};
 ghost use Rattle.polyhedron_edge_terms.specs.SolidAngle.{passesThrough, windingAngle, solidAngle};
-ghost use Rattle.polyhedron_edge_terms.specs.EdgeTerms.{gap, logarithm, dyad, times, addTimes, subTimes, addFaceTerms, addEdgeTerms, mean, symmetric};
+ghost use Rattle.polyhedron_edge_terms.specs.EdgeTerms.{gap, logarithm, dyad, vectorTimes, addTimes, subTimes, addFaceTerms, addEdgeTerms, mean, symmetric};
 use newtonian::Hessian;
 use newtonian::Newtonian;
 use newtonian::Vector;
@@ -27,12 +27,7 @@ pub struct Corner {
 pub fn unit(a: Vector) -> Vector
     ensures { λ r. ⌜ r ≡ unit a ⌝ }
 {
-    let n = newtonian::norm(a);
-    Vector {
-        x: a.x / n,
-        y: a.y / n,
-        z: a.z / n,
-    }
+    newtonian::over(a, newtonian::norm(a))
 }
 
 // The side from a to b, between the vertices from and to, of a face with the unit normal n.
@@ -113,7 +108,7 @@ fn gap(a: Corner, b: Corner, e: f64) -> f64
     sum - e
 }
 
-// The logarithm of an edge of length e from a to b. Where the edge passes through the station it is not finite.
+// The logarithm of an edge of length e from a to b. It may be infinite or a NaN, as where the station lies on the edge.
 pub fn logarithm(a: Corner, b: Corner, e: f64) -> f64
     ensures { λ r. ⌜ r ≡ logarithm a b e ⌝ }
 {
@@ -142,8 +137,8 @@ pub fn dyad(n: Vector, m: Vector) -> Hessian
     }
 }
 
-fn times(u: Vector, s: f64) -> Vector
-    ensures { λ r. ⌜ r ≡ times u s ⌝ }
+fn vector_times(u: Vector, s: f64) -> Vector
+    ensures { λ r. ⌜ r ≡ vectorTimes u s ⌝ }
 {
     Vector {
         x: u.x * s,
@@ -179,7 +174,7 @@ pub fn add_face_terms(n: Vector, rho: f64, omega: f64, f: Newtonian) -> Newtonia
     let d = dyad(n, n);
     Newtonian {
         potential: f.potential - 0.5 * rho * rho * omega,
-        gradient: add_times(f.gradient, times(n, rho), omega),
+        gradient: add_times(f.gradient, vector_times(n, rho), omega),
         hessian: Hessian {
             x: sub_times(f.hessian.x, d.x, omega),
             y: sub_times(f.hessian.y, d.y, omega),
@@ -188,7 +183,8 @@ pub fn add_face_terms(n: Vector, rho: f64, omega: f64, f: Newtonian) -> Newtonia
     }
 }
 
-// The field f with the terms of an edge of the face with the normal n: the edge's normal m, its logarithm l, and the offset r of a point on it.
+// The field f with the terms of an edge of the face with the normal n: the edge's normal m, its logarithm l, and the offset
+// r of a point on it.
 pub fn add_edge_terms(n: Vector, m: Vector, l: f64, r: Vector, f: Newtonian) -> Newtonian
     ensures { λ s. ⌜ s ≡ addEdgeTerms n m l r f ⌝ }
 {
@@ -197,7 +193,7 @@ pub fn add_edge_terms(n: Vector, m: Vector, l: f64, r: Vector, f: Newtonian) -> 
     let mr = dot(m, r);
     Newtonian {
         potential: f.potential + 0.5 * nr * mr * l,
-        gradient: sub_times(f.gradient, times(n, mr), l),
+        gradient: sub_times(f.gradient, vector_times(n, mr), l),
         hessian: Hessian {
             x: add_times(f.hessian.x, d.x, l),
             y: add_times(f.hessian.y, d.y, l),

@@ -41,15 +41,15 @@ addTerms ps xs = Fold fieldSize (addTermAt xs) ps
 
 -- ---- the totals
 
-unfoldable pub total : List Pair → ℕ → Float
-total ps k = sumAt ps k .sum ⊕ sumAt ps k .carry
+unfoldable pub totalAt : List Pair → ℕ → Float
+totalAt ps k = sumAt ps k .sum ⊕ sumAt ps k .carry
 
 unfoldable pub totalVector : List Pair → ℕ → Vector
-totalVector ps k = record { x = total ps k; y = total ps (k + 1); z = total ps (k + 2) }
+totalVector ps k = record { x = totalAt ps k; y = totalAt ps (k + 1); z = totalAt ps (k + 2) }
 
 unfoldable pub totals : List Pair → Newtonian
 totals ps = record {
-  potential = total ps 0;
+  potential = totalAt ps 0;
   gradient = totalVector ps 1;
   hessian = record { x = totalVector ps 4; y = totalVector ps 7; z = totalVector ps 10 };
 }

@@ -6,7 +6,7 @@ use newtonian::Vector;
 ghost use mathlib.Core.Path.{_≡_};
 ghost use Prim.Native.Nat.{_+_, _<_};
 ghost use Rattle.newtonian.specs.Vectors.{fieldSize};
-ghost use Rattle.polyhedron_neumaier.specs.Neumaier.{addTerm, addTerms, noSums, total, totalVector, totals};
+ghost use Rattle.polyhedron_neumaier.specs.Neumaier.{addTerm, addTerms, noSums, totalAt, totalVector, totals};
 
 // A sum, and what its roundings have lost.
 pub struct Pair {
@@ -50,9 +50,9 @@ pub fn no_sums() -> [Pair; FIELD_SIZE]
     }; FIELD_SIZE]
 }
 
-fn total(sums: [Pair; FIELD_SIZE], k: usize) -> f64
+fn total_at(sums: [Pair; FIELD_SIZE], k: usize) -> f64
     requires { ⌜ k < fieldSize ⌝ }
-    ensures { λ r. ⌜ r ≡ total sums k ⌝ }
+    ensures { λ r. ⌜ r ≡ totalAt sums k ⌝ }
 {
     sums[k].sum + sums[k].carry
 }
@@ -63,9 +63,9 @@ fn total_vector(sums: [Pair; FIELD_SIZE], k: usize) -> Vector
     ensures { λ r. ⌜ r ≡ totalVector sums k ⌝ }
 {
     Vector {
-        x: total(sums, k),
-        y: total(sums, k + 1),
-        z: total(sums, k + 2),
+        x: total_at(sums, k),
+        y: total_at(sums, k + 1),
+        z: total_at(sums, k + 2),
     }
 }
 
@@ -74,7 +74,7 @@ pub fn totals(sums: [Pair; FIELD_SIZE]) -> Newtonian
     ensures { λ r. ⌜ r ≡ totals sums ⌝ }
 {
     Newtonian {
-        potential: total(sums, 0),
+        potential: total_at(sums, 0),
         gradient: total_vector(sums, 1),
         hessian: Hessian {
             x: total_vector(sums, 4),

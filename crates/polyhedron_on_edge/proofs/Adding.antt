@@ -15,7 +15,7 @@ use Rattle.lists.proofs.Numbers.{below?, same?}
 use Rattle.lists.specs.First.{IsFirst}
 use Rattle.newtonian.specs.declared.Hessian.{Hessian}
 use Rattle.polyhedron_on_edge.proofs.Storing.{dyad-other, dyad-stored}
-use Rattle.polyhedron_on_edge.specs.Block.{Holds, dyadIn, edgeIn, hasKey, noEdge, numbers, stored}
+use Rattle.polyhedron_on_edge.specs.Block.{HoldsEdges, dyadIn, edgeIn, hasKey, noEdge, hessianNumbers, storedDyad}
 use Rattle.polyhedron_on_edge.specs.OnEdge.{Edge, addDyad, addInfinite, addMatrices, edgeLimit, infiniteEntries}
 
 -- ---- the definition, where the key is found and where it is not
@@ -50,7 +50,7 @@ edge-ext p q = cc
 
 -- ---- what the count says
 
-module _ (es : List Edge) (keys : List ℕ) (dyads : List Float) (n : ℕ) (h : Holds es keys dyads n) where
+module _ (es : List Edge) (keys : List ℕ) (dyads : List Float) (n : ℕ) (h : HoldsEdges es keys dyads n) where
   pub held-few : n ≤ edgeLimit → length es ≤ edgeLimit
   held-few l = ⊎-elim (λ p. absurd (omega (arith, h .many p))) (λ p. p) (below? edgeLimit (length es))
 
@@ -66,7 +66,7 @@ module _ (es : List Edge) (keys : List ℕ) (dyads : List Float) (n : ℕ) (h : 
   -- ---- the four answers
 
   module _ (k : ℕ) (d : Hessian) where
-    pub was-full : edgeLimit < n → Holds (addDyad k d es) keys dyads n
+    pub was-full : edgeLimit < n → HoldsEdges (addDyad k d es) keys dyads n
     was-full l = record {
       many = λ _. l;
       few = λ p. absurd (omega (arith, add-grows k d es, h .few (omega (arith, add-grows k d es))));
@@ -77,7 +77,7 @@ module _ (es : List Edge) (keys : List ℕ) (dyads : List Float) (n : ℕ) (h : 
     none-met l none j p e = none j (omega (arith, held-count l)) (held-key l j (omega (arith, held-count l)) ∙ e)
 
     module _ (l : n ≤ edgeLimit) (r : ℕ) (f : IsFirst (hasKey k keys) n r) (s : length dyads ≡ edgeLimit * 9) where
-      pub is-found : r < n → (dyads′ : List Float) → dyads′ ≡ stored r (numbers (addMatrices (dyadIn dyads r) d)) dyads → Holds (addDyad k d es) keys dyads′ n
+      pub is-found : r < n → (dyads′ : List Float) → dyads′ ≡ storedDyad r (hessianNumbers (addMatrices (dyadIn dyads r) d)) dyads → HoldsEdges (addDyad k d es) keys dyads′ n
       is-found p dyads′ q =
           let c = held-count l in
           let sum = addMatrices (dyadIn dyads r) d in
@@ -90,24 +90,24 @@ module _ (es : List Edge) (keys : List ℕ) (dyads : List Float) (n : ℕ) (h : 
             entries = λ _ i m.
                 ⊎-elim
                 (λ e. rw (a, q) (
-                subst (λ (j : ℕ). edgeIn keys (stored r (numbers sum) dyads) j ≡ getD (set es r new) j noEdge) (sym e) (
+                subst (λ (j : ℕ). edgeIn keys (storedDyad r (hessianNumbers sum) dyads) j ≡ getD (set es r new) j noEdge) (sym e) (
                 edge-ext (held-key l r p) (dyad-stored r sum dyads (omega arith) ∙ ap (λ (x : Hessian). addMatrices x d) (held-dyad l r p))
                 ∙ sym (getD-set-same es r new noEdge (omega arith)))))
                 (λ ne. rw (a, q) (
-                edge-ext (held-key l i (omega arith)) (dyad-other r (numbers sum) dyads i ne ∙ held-dyad l i (omega arith))
+                edge-ext (held-key l i (omega arith)) (dyad-other r (hessianNumbers sum) dyads i ne ∙ held-dyad l i (omega arith))
                 ∙ sym (getD-set-other es r i new noEdge ne)))
                 (same? i r);
           }
 
-      pub is-past : r ≡ n → n ≡ edgeLimit → Holds (addDyad k d es) keys dyads (n + 1)
+      pub is-past : r ≡ n → n ≡ edgeLimit → HoldsEdges (addDyad k d es) keys dyads (n + 1)
       is-past p m =
           let a = add-new k d es (none-met l (λ j o. eqb-false (getD keys j 0) k (f .before j (omega arith)))) in
           let len : length (addDyad k d es) ≡ length es + 1 = ap length a ∙ length-append es (record { key = k; dyad = d } ∷ []) in
           let c = held-count l in
           record { many = λ _. omega arith; few = λ o. absurd (omega arith); entries = λ o. absurd (omega arith) }
 
-      pub is-new : r ≡ n → n < edgeLimit → length keys ≡ edgeLimit → (dyads′ : List Float) → dyads′ ≡ stored n (numbers d) dyads
-          → Holds (addDyad k d es) (set keys n k) dyads′ (n + 1)
+      pub is-new : r ≡ n → n < edgeLimit → length keys ≡ edgeLimit → (dyads′ : List Float) → dyads′ ≡ storedDyad n (hessianNumbers d) dyads
+          → HoldsEdges (addDyad k d es) (set keys n k) dyads′ (n + 1)
       is-new p m z dyads′ q =
           let new : Edge = record { key = k; dyad = d } in
           let a = add-new k d es (none-met l (λ j o. eqb-false (getD keys j 0) k (f .before j (omega arith)))) in
@@ -119,11 +119,11 @@ module _ (es : List Edge) (keys : List ℕ) (dyads : List Float) (n : ℕ) (h : 
             entries = λ _ i o.
                 ⊎-elim
                 (λ e. rw (a, q) (
-                subst (λ (j : ℕ). edgeIn (set keys n k) (stored n (numbers d) dyads) j ≡ getD (es ++ (new ∷ [])) j noEdge) (sym e) (
+                subst (λ (j : ℕ). edgeIn (set keys n k) (storedDyad n (hessianNumbers d) dyads) j ≡ getD (es ++ (new ∷ [])) j noEdge) (sym e) (
                 edge-ext (getD-set-same keys n k 0 (omega arith)) (dyad-stored n d dyads (omega arith))
                 ∙ sym (getD-at es new [] noEdge n (sym c)))))
                 (λ ne. rw (a, q) (
-                edge-ext (getD-set-other keys n i k 0 ne ∙ held-key l i (omega arith)) (dyad-other n (numbers d) dyads i ne ∙ held-dyad l i (omega arith))
+                edge-ext (getD-set-other keys n i k 0 ne ∙ held-key l i (omega arith)) (dyad-other n (hessianNumbers d) dyads i ne ∙ held-dyad l i (omega arith))
                 ∙ sym (List·getD-append es (new ∷ []) noEdge i (omega arith))))
                 (same? i n);
           }

@@ -10,7 +10,7 @@ use lib.ListN.{getD, length, length-set}
 use lib.Seq.{getD-set-other, getD-set-same}
 use Rattle.newtonian.specs.Fold.{Fold}
 use Rattle.newtonian.specs.declared.Hessian.{Hessian}
-use Rattle.polyhedron_on_edge.specs.Block.{dyadIn, numbers, storeNumber, stored}
+use Rattle.polyhedron_on_edge.specs.Block.{dyadIn, hessianNumbers, storeNumber, storedDyad}
 
 module _ (i : ℕ) (d ds : List Float) where
   -- the block after n of the stores
@@ -37,28 +37,28 @@ module _ (i : ℕ) (d ds : List Float) where
       (λ s. getD-set-other (after n) (i * 9 + n) (i * 9 + q) (getD d n nan) nan (omega arith) ∙ after-at n q (omega arith) (omega arith))
       (eq-or-lt-of-le (le-of-suc-le-suc h))
 
-  pub stored-length : length (stored i d ds) ≡ length ds
-  unfolding stored after
+  pub stored-length : length (storedDyad i d ds) ≡ length ds
+  unfolding storedDyad after
   stored-length = after-length 9
 
-  stored-at : (q : ℕ) → q < 9 → i * 9 + 9 ≤ length ds → getD (stored i d ds) (i * 9 + q) nan ≡ getD d q nan
-  unfolding stored after
+  stored-at : (q : ℕ) → q < 9 → i * 9 + 9 ≤ length ds → getD (storedDyad i d ds) (i * 9 + q) nan ≡ getD d q nan
+  unfolding storedDyad after
   stored-at q h l = after-at 9 q h l
 
-  stored-other : (j q : ℕ) → j ≢ i → q < 9 → getD (stored i d ds) (j * 9 + q) nan ≡ getD ds (j * 9 + q) nan
-  unfolding stored after
+  stored-other : (j q : ℕ) → j ≢ i → q < 9 → getD (storedDyad i d ds) (j * 9 + q) nan ≡ getD ds (j * 9 + q) nan
+  unfolding storedDyad after
   stored-other j q ne h = after-other 9 (j * 9 + q) (λ r s. omega arith)
 
-  pub dyad-other : (j : ℕ) → j ≢ i → dyadIn (stored i d ds) j ≡ dyadIn ds j
+  pub dyad-other : (j : ℕ) → j ≢ i → dyadIn (storedDyad i d ds) j ≡ dyadIn ds j
   unfolding dyadIn
   dyad-other j ne =
-      let o : (q : ℕ) → q < 9 → getD (stored i d ds) (j * 9 + q) nan ≡ getD ds (j * 9 + q) nan = λ q h. stored-other j q ne h in
+      let o : (q : ℕ) → q < 9 → getD (storedDyad i d ds) (j * 9 + q) nan ≡ getD ds (j * 9 + q) nan = λ q h. stored-other j q ne h in
       let o₀ = simp add-zero at (o 0 (omega arith)) in
       simp (o₀, o 1 (omega arith), o 2 (omega arith), o 3 (omega arith), o 4 (omega arith), o 5 (omega arith), o 6 (omega arith), o 7 (omega arith), o 8 (omega arith))
 
-pub dyad-stored : (i : ℕ) (d : Hessian) (ds : List Float) → i * 9 + 9 ≤ length ds → dyadIn (stored i (numbers d) ds) i ≡ d
-unfolding dyadIn numbers
+pub dyad-stored : (i : ℕ) (d : Hessian) (ds : List Float) → i * 9 + 9 ≤ length ds → dyadIn (storedDyad i (hessianNumbers d) ds) i ≡ d
+unfolding dyadIn hessianNumbers
 dyad-stored i d ds l =
-    let s : (q : ℕ) → q < 9 → getD (stored i (numbers d) ds) (i * 9 + q) nan ≡ getD (numbers d) q nan = λ q h. stored-at i (numbers d) ds q h l in
+    let s : (q : ℕ) → q < 9 → getD (storedDyad i (hessianNumbers d) ds) (i * 9 + q) nan ≡ getD (hessianNumbers d) q nan = λ q h. stored-at i (hessianNumbers d) ds q h l in
     let s₀ = simp add-zero at (s 0 (omega arith)) in
     simp (s₀, s 1 (omega arith), s 2 (omega arith), s 3 (omega arith), s 4 (omega arith), s 5 (omega arith), s 6 (omega arith), s 7 (omega arith), s 8 (omega arith))

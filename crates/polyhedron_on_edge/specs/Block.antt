@@ -1,5 +1,5 @@
--- What the code keeps of the edges through a station: a block of keys, nine numbers to an edge, and a count, which stands one past the limit where there are too many.
--- Definitions only.
+-- No part of the field's definition: what the code keeps of the edges that give a logarithm that is not finite. It is a block of keys, nine numbers to an edge, and a count, which
+-- stands one past the limit where there are too many. The contracts of the inner functions speak of it. Definitions only.
 use mathlib.Core.Path.{_≡_}
 use mathlib.Core.Bool.{Bool}
 use mathlib.Core.List.{List, [], _∷_}
@@ -13,10 +13,10 @@ use Rattle.newtonian.specs.Vectors.{zeroField}
 use Rattle.polyhedron_on_edge.specs.OnEdge.{edgeLimit, Edge}
 
 -- a matrix row by row
-unfoldable pub numbers : Hessian → List Float
-numbers d = d .x .x ∷ d .x .y ∷ d .x .z ∷ d .y .x ∷ d .y .y ∷ d .y .z ∷ d .z .x ∷ d .z .y ∷ d .z .z ∷ []
+unfoldable pub hessianNumbers : Hessian → List Float
+hessianNumbers d = d .x .x ∷ d .x .y ∷ d .x .z ∷ d .y .x ∷ d .y .y ∷ d .y .z ∷ d .z .x ∷ d .z .y ∷ d .z .z ∷ []
 
--- matrix i of a block, and the block with matrix i set to the nine numbers d
+-- matrix i of a block
 unfoldable pub dyadIn : List Float → ℕ → Hessian
 dyadIn ds i =
     let n = i * 9 in
@@ -26,11 +26,13 @@ dyadIn ds i =
       z = record { x = getD ds (n + 6) nan; y = getD ds (n + 7) nan; z = getD ds (n + 8) nan };
     }
 
+-- the block with number q of matrix i set to number q of d
 abbrev pub storeNumber : ℕ → List Float → ℕ → List Float → List Float
 storeNumber i d q ds = set ds (i * 9 + q) (getD d q nan)
 
-unfoldable pub stored : ℕ → List Float → List Float → List Float
-stored i d ds = Fold 9 (storeNumber i d) ds
+-- the block with matrix i set to the nine numbers d
+unfoldable pub storedDyad : ℕ → List Float → List Float → List Float
+storedDyad i d ds = Fold 9 (storeNumber i d) ds
 
 -- edge i of a block
 abbrev pub edgeIn : List ℕ → List Float → ℕ → Edge
@@ -51,7 +53,7 @@ pub record Sized (keys : List ℕ) (dyads : List Float) (n : ℕ) : Type 0 where
   pub filled : length dyads ≡ edgeLimit * 9
 
 -- the block holds the edges es, if these are not too many
-pub record Holds (es : List Edge) (keys : List ℕ) (dyads : List Float) (n : ℕ) : Type 0 where
+pub record HoldsEdges (es : List Edge) (keys : List ℕ) (dyads : List Float) (n : ℕ) : Type 0 where
   pub many : edgeLimit < length es → edgeLimit < n
   pub few : length es ≤ edgeLimit → n ≡ length es
   pub entries : length es ≤ edgeLimit → (i : ℕ) → i < length es → edgeIn keys dyads i ≡ getD es i noEdge

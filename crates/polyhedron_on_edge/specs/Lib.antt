@@ -1,4 +1,4 @@
--- The edges through a station.
+-- The edges that give a logarithm that is not finite: the definition (OnEdge), a law of their keys, and what the code keeps of them (Block).
 pub mod OnEdge
 pub mod KeyLaws
 pub mod Block

@@ -1,6 +1,7 @@
--- The edges through a station, with the roundings in the order of the Rust's `edge_face_sums`. On an edge the logarithm L_e of Werner & Scheeres (1997) is not finite, and the edge's
--- term E_e L_e of the Hessian waits until all faces are added: the dyads of the edge's two faces are summed first, E_e = n̂_A n̂_eᴬᵀ + n̂_B n̂_eᴮᵀ, which vanishes between faces in one
--- plane. Then each entry of E_e above 10⁻¹² in magnitude makes the Hessian's entry infinite, as it is physically on a real edge. Definitions only.
+-- The edges that give a logarithm L_e (Werner & Scheeres 1997) that is not finite, with the roundings in the order of the Rust's `edge_face_sums`. They are those on which the station
+-- lies, as far as the roundings tell, and also edges so near that squares of distances underflow. The term E_e L_e of the Hessian then waits until all faces are added: the dyads of the
+-- edge's two faces are summed first, E_e = n̂_A n̂_eᴬᵀ + n̂_B n̂_eᴮᵀ, which vanishes between faces in one plane. Then each entry of E_e above 10⁻¹² in magnitude makes the Hessian's entry
+-- infinite, as it is physically on a real edge. Definitions only.
 use mathlib.Core.Bool.{cond}
 use mathlib.Core.List.{List, [], _∷_}
 use Prim.Native.Nat.{ℕ}
@@ -22,7 +23,7 @@ edgeLimit = 64
 unfoldable pub edgeKey : ℕ → ℕ → ℕ
 edgeKey i j = cond (ltb i j) (edgeNumber i j) (edgeNumber j i)
 
--- an edge through the station, and the sum of its faces' dyads so far
+-- an edge that gives a logarithm that is not finite, and the sum of its faces' dyads so far
 pub record Edge : Type 0 where
   pub key : ℕ
   pub dyad : Hessian
@@ -48,7 +49,7 @@ infiniteRow t e = record { x = infiniteEntry (t .x) (e .x); y = infiniteEntry (t
 unfoldable pub infiniteEntries : Hessian → Hessian → Hessian
 infiniteEntries t E = record { x = infiniteRow (t .x) (E .x); y = infiniteRow (t .y) (E .y); z = infiniteRow (t .z) (E .z) }
 
--- with those of all edges, in order
+-- the Hessian t with the entries that all the edges make infinite, edge by edge
 unfoldable pub addInfinite : List Edge → Hessian → Hessian
 addInfinite [] t = t
 addInfinite (e ∷ es) t = addInfinite es (infiniteEntries t (e .dyad))

@@ -1,15 +1,17 @@
-// The edges through a station: keys, nine numbers for each, and a count, in arrays that the caller lends.
+// The edges that give a logarithm that is not finite: keys, nine numbers for each, and a count, in arrays that the caller
+// lends.
 ghost use mathlib.Core.Path.{_≡_};
 ghost use mathlib.Core.List.{List};
 ghost use Prim.Native.Nat.{ℕ, _+_, _*_, _<_, _≤_};
 ghost use Rattle.lists.specs.First.{IsFirst};
 ghost use Rattle.polyhedron_on_edge.specs.OnEdge.{edgeLimit, edgeKey, Edge, addMatrices, addDyad, infiniteEntry, infiniteRow, infiniteEntries, addInfinite};
-ghost use Rattle.polyhedron_on_edge.specs.Block.{numbers, dyadIn, stored, hasKey, Sized, Holds};
+ghost use Rattle.polyhedron_on_edge.specs.Block.{hessianNumbers, dyadIn, storedDyad, hasKey, Sized, HoldsEdges};
 use mesh_orders::edges::number;
 use newtonian::Hessian;
 use newtonian::Vector;
+use newtonian::add_vectors;
 
-// Document 01's limit of the edges through a station.
+// Document 01's limit of the different edges that may give a logarithm that is not finite.
 pub const EDGE_LIMIT: usize = 64;
 
 // Nine numbers to an edge.
@@ -42,26 +44,14 @@ fn add_matrices(a: Hessian, b: Hessian) -> Hessian
     ensures { λ r. ⌜ r ≡ addMatrices a b ⌝ }
 {
     Hessian {
-        x: Vector {
-            x: a.x.x + b.x.x,
-            y: a.x.y + b.x.y,
-            z: a.x.z + b.x.z,
-        },
-        y: Vector {
-            x: a.y.x + b.y.x,
-            y: a.y.y + b.y.y,
-            z: a.y.z + b.y.z,
-        },
-        z: Vector {
-            x: a.z.x + b.z.x,
-            y: a.z.y + b.z.y,
-            z: a.z.z + b.z.z,
-        },
+        x: add_vectors(a.x, b.x),
+        y: add_vectors(a.y, b.y),
+        z: add_vectors(a.z, b.z),
     }
 }
 
-fn numbers(d: Hessian) -> [f64; 9]
-    ensures { λ r. ⌜ r ≡ numbers d ⌝ }
+fn hessian_numbers(d: Hessian) -> [f64; 9]
+    ensures { λ r. ⌜ r ≡ hessianNumbers d ⌝ }
 {
     [
         d.x.x,
@@ -103,14 +93,15 @@ fn dyad_at(dyads: &[f64; BLOCK], i: usize) -> Hessian
 
 fn store(dyads: &mut [f64; BLOCK], i: usize, d: [f64; 9])
     requires { ⌜ i < edgeLimit ⌝ }
-    ensures { λ _. ⌜ now (dyads .exit) ≡ stored i d (now (dyads .entry)) ⌝ }
+    ensures { λ _. ⌜ now (dyads .exit) ≡ storedDyad i d (now (dyads .entry)) ⌝ }
 {
     for q in 0..9usize {
         dyads[i * 9 + q] = d[q];
     }
 }
 
-// Adds a face's dyad to the edge's sum, or the edge to the block. The answer is the new count, one past the limit where there are too many edges.
+// Adds a face's dyad to the edge's sum, or the edge to the block. The answer is the new count, one past the limit where
+// there are too many edges.
 pub fn add_dyad(
     keys: &mut [u64; EDGE_LIMIT],
     dyads: &mut [f64; BLOCK],
@@ -120,22 +111,26 @@ pub fn add_dyad(
 ) -> usize
     requires { ⌜ Sized (now keys) (now dyads) count ⌝ }
     ensures { λ r. ⌜ Sized (now (keys .exit)) (now (dyads .exit)) r ⌝ }
-    ensures { λ r. ⌜ ((es : List Edge) → Holds es (now (keys .entry)) (now (dyads .entry)) count →
-        Holds (addDyad key d es) (now (keys .exit)) (now (dyads .exit)) r) ⌝ }
+    ensures { λ r. ⌜ ((es : List Edge) → HoldsEdges es (now (keys .entry)) (now (dyads .entry)) count →
+        HoldsEdges (addDyad key d es) (now (keys .exit)) (now (dyads .exit)) r) ⌝ }
 {
     if EDGE_LIMIT < count {
         return count;
     }
     let at = find(keys, count, key);
     if at < count {
-        store(dyads, at, numbers(add_matrices(dyad_at(dyads, at), d)));
+        store(
+            dyads,
+            at,
+            hessian_numbers(add_matrices(dyad_at(dyads, at), d)),
+        );
         return count;
     }
     if count == EDGE_LIMIT {
         return count + 1;
     }
     keys[count] = key;
-    store(dyads, count, numbers(d));
+    store(dyads, count, hessian_numbers(d));
     count + 1
 }
 
@@ -172,7 +167,7 @@ fn infinite_entries(t: Hessian, e: Hessian) -> Hessian
 // The Hessian with the entries that the block's edges make infinite.
 pub fn add_infinite(t: Hessian, dyads: &[f64; BLOCK], count: usize) -> Hessian
     requires { ⌜ count ≤ edgeLimit ⌝ }
-    ensures { λ r. ⌜ ((es : List Edge) (keys : List ℕ) → Holds es keys (now (dyads .entry)) count → r ≡ addInfinite es t) ⌝ }
+    ensures { λ r. ⌜ ((es : List Edge) (keys : List ℕ) → HoldsEdges es keys (now (dyads .entry)) count → r ≡ addInfinite es t) ⌝ }
 {
     let mut sums = t;
     for i in 0..count {

@@ -14,7 +14,7 @@ use Rattle.newtonian.specs.Fold.{Fold}
 use Rattle.newtonian.specs.Vectors.{difference, dot, cross, zeroField, fieldNumbers}
 use Rattle.newtonian.specs.declared.Vector.{Vector}
 use Rattle.newtonian.specs.declared.Newtonian.{Newtonian}
-use Rattle.prism_cubature.specs.Cubature.{addPoint}
+use Rattle.newtonian.specs.Point.{addPoint}
 use Rattle.mesh.specs.Surface.{faceCount, corner}
 use Rattle.polyhedron_neumaier.specs.Neumaier.{noSums, addTerms, totals}
 use Rattle.polyhedron_neumaier.specs.declared.Pair.{Pair}
@@ -23,18 +23,19 @@ use Rattle.polyhedron_tetrahedra.specs.declared.Tetrahedron.{Tetrahedron
 
 -- ---- the rule
 
--- the points on each axis
+-- how many points the rule has on each axis
 abbrev pub points : ℕ
 points = 6
 
--- node and weight i, mapped from (-1, 1) to (0, 1)
+-- node i, mapped from (−1, 1) to (0, 1)
 unfoldable pub mappedNode : ℕ → Float
 mappedNode i = 0·5 ⊗ (node points i ⊕ 1·0)
 
+-- weight i, for (0, 1)
 unfoldable pub mappedWeight : ℕ → Float
 mappedWeight i = 0·5 ⊗ weight points i
 
--- all of them
+-- the mapped rule: all nodes and all weights
 unfoldable pub mappedRule : MappedRule
 mappedRule = record {
   nodes = mappedNode 0 ∷ mappedNode 1 ∷ mappedNode 2 ∷ mappedNode 3 ∷ mappedNode 4 ∷ mappedNode 5 ∷ [];
@@ -43,7 +44,7 @@ mappedRule = record {
 
 -- ---- a tetrahedron
 
--- that from the apex a to the face with the corners b, c and d; vol6 is six times its volume, (b − a) · ((c − a) × (d − a))
+-- the tetrahedron from the apex a to the face with the corners b, c and d; vol6 is six times its volume, (b − a) · ((c − a) × (d − a))
 unfoldable pub overFace : Vector → Vector → Vector → Vector → Tetrahedron
 overFace a b c d = record {
   ab = difference b a;
@@ -52,10 +53,11 @@ overFace a b c d = record {
   vol6 = dot (difference b a) (cross (difference c a) (difference d a));
 }
 
--- Duffy's map: one coordinate, and the point
+-- one coordinate of Duffy's map
 unfoldable pub duffyAxis : Float → Float → Float → Float → Float → Float → Float → Float
 duffyAxis a ab bc cd u v t = a ⊕ u ⊗ (ab ⊕ v ⊗ (bc ⊕ t ⊗ cd))
 
+-- Duffy's map: the point of the tetrahedron s with the apex a at u, v and t
 unfoldable pub duffy : Vector → Tetrahedron → Float → Float → Float → Vector
 duffy a s u v t = record {
   x = duffyAxis (a .x) (s .ab .x) (s .bc .x) (s .cd .x) u v t;
@@ -63,33 +65,33 @@ duffy a s u v t = record {
   z = duffyAxis (a .z) (s .ab .z) (s .bc .z) (s .cd .z) u v t;
 }
 
--- ---- its field: the three sums, over layers, lines and points
+-- ---- the field of a tetrahedron: the three sums, over layers, lines and points
 
--- the Jacobian and the rule's weights along u and v, multiplied from left to right
+-- the weight that the points of a line have in common: the Jacobian and the rule's weights along u and v, multiplied from left to right
 unfoldable pub lineWeight : Float → Float → Float → Float → Float → Float
 lineWeight vol6 u v wu wv = vol6 ⊗ u ⊗ u ⊗ v ⊗ wu ⊗ wv
 
 module _ (p a : Vector) (s : Tetrahedron) where
-  -- the point of the line at u and v that is node k along t; w is the line's weight
-  abbrev pub point : Float → Float → Float → ℕ → Newtonian → Newtonian
-  point u v w k = addPoint (w ⊗ mappedWeight k) (difference (duffy a s u v (mappedNode k)) p)
+  -- adds the point of the line at u and v that is node k along t; w is the line's weight
+  abbrev pub tetrahedronPoint : Float → Float → Float → ℕ → Newtonian → Newtonian
+  tetrahedronPoint u v w k = addPoint (w ⊗ mappedWeight k) (difference (duffy a s u v (mappedNode k)) p)
 
-  -- the line of points at u that is node j along v
-  abbrev pub line : Float → Float → ℕ → Newtonian → Newtonian
-  line u wu j = Fold points (point u (mappedNode j) (lineWeight (s .vol6) u (mappedNode j) wu (mappedWeight j)))
+  -- adds the line of points at u that is node j along v
+  abbrev pub tetrahedronLine : Float → Float → ℕ → Newtonian → Newtonian
+  tetrahedronLine u wu j = Fold points (tetrahedronPoint u (mappedNode j) (lineWeight (s .vol6) u (mappedNode j) wu (mappedWeight j)))
 
-  -- the layer of lines that is node i along u
-  abbrev pub layer : ℕ → Newtonian → Newtonian
-  layer i = Fold points (line (mappedNode i) (mappedWeight i))
+  -- adds the layer of lines that is node i along u
+  abbrev pub tetrahedronLayer : ℕ → Newtonian → Newtonian
+  tetrahedronLayer i = Fold points (tetrahedronLine (mappedNode i) (mappedWeight i))
 
 unfoldable pub tetrahedronField : Vector → Vector → Tetrahedron → Newtonian
-tetrahedronField p a s = Fold points (layer p a s) zeroField
+tetrahedronField p a s = Fold points (tetrahedronLayer p a s) zeroField
 
 -- ---- the faces
 
 -- the sums with the tetrahedron over face k
-unfoldable pub addFace : Vector → Vector → List Float → List ℕ → ℕ → List Pair → List Pair
-addFace p a v f k sums = addTerms sums (fieldNumbers (tetrahedronField p a (overFace a (corner v f k 0) (corner v f k 1) (corner v f k 2))))
+unfoldable pub addTetrahedron : Vector → Vector → List Float → List ℕ → ℕ → List Pair → List Pair
+addTetrahedron p a v f k sums = addTerms sums (fieldNumbers (tetrahedronField p a (overFace a (corner v f k 0) (corner v f k 1) (corner v f k 2))))
 
 unfoldable pub tetrahedra : Vector → Vector → List Float → List ℕ → Newtonian
-tetrahedra p a v f = totals (Fold (faceCount f) (addFace p a v f) noSums)
+tetrahedra p a v f = totals (Fold (faceCount f) (addTetrahedron p a v f) noSums)

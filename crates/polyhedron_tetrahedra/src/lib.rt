@@ -1,5 +1,5 @@
 // The far field of a polyhedron: a cubature of 1/r over the signed tetrahedra from an apex to each face. What does not
-// turn on the station (the mapped rule, a face's tetrahedron, Duffy's map) stands in functions of its own.
+// depend on the station (the mapped rule, a face's tetrahedron, Duffy's map) stands in functions of its own.
 use newtonian::FIELD_SIZE;
 use newtonian::Newtonian;
 use newtonian::Vector;
@@ -12,9 +12,9 @@ ghost use Prim.Native.Nat.{_<_};
 ghost use Rattle.newtonian.specs.Fold.{Fold};
 ghost use Rattle.polyhedron_neumaier.specs.Neumaier.{noSums};
 ghost use Rattle.mesh.specs.Surface.{Body, faceCount};
-ghost use Rattle.polyhedron_tetrahedra.specs.Tetrahedra.{points, mappedRule, overFace, duffyAxis, duffy, lineWeight, point, line, tetrahedronField, addFace, tetrahedra};
+ghost use Rattle.polyhedron_tetrahedra.specs.Tetrahedra.{points, mappedRule, overFace, duffyAxis, duffy, lineWeight, tetrahedronPoint, tetrahedronLine, tetrahedronField, addTetrahedron, tetrahedra};
 
-// The points on each axis.
+// How many points the rule has on each axis.
 const POINTS: usize = 6;
 
 // A rule on (0, 1).
@@ -31,7 +31,7 @@ pub struct Tetrahedron {
     pub vol6: f64,
 }
 
-// The 6-point rule, mapped from (-1, 1).
+// The 6-point rule, mapped from (−1, 1).
 fn mapped_rule() -> MappedRule
     ensures { λ r. ⌜ r ≡ mappedRule ⌝ }
 {
@@ -93,7 +93,7 @@ fn line_weight(vol6: f64, u: f64, v: f64, wu: f64, wv: f64) -> f64
 }
 
 // The sums f with the line of points at u and v.
-fn add_line(
+fn add_tetrahedron_line(
     p: Vector,
     a: Vector,
     s: Tetrahedron,
@@ -105,20 +105,20 @@ fn add_line(
     f: Newtonian,
 ) -> Newtonian
     requires { ⌜ (now nodes ≡ mappedRule .nodes) × (now weights ≡ mappedRule .weights) ⌝ }
-    ensures { λ r. ⌜ r ≡ Fold points (point p a s u v w) f ⌝ }
+    ensures { λ r. ⌜ r ≡ Fold points (tetrahedronPoint p a s u v w) f ⌝ }
 {
     let mut sums = f;
     let mut k = 0;
     while k < POINTS {
         let x = duffy(a, s, u, v, nodes[k]);
-        sums = prism_cubature::add_point(w * weights[k], difference(x, p), sums);
+        sums = newtonian::add_point(w * weights[k], difference(x, p), sums);
         k += 1;
     }
     sums
 }
 
 // The sums f with the layer of lines at u.
-fn add_layer(
+fn add_tetrahedron_layer(
     p: Vector,
     a: Vector,
     s: Tetrahedron,
@@ -129,14 +129,14 @@ fn add_layer(
     f: Newtonian,
 ) -> Newtonian
     requires { ⌜ (now nodes ≡ mappedRule .nodes) × (now weights ≡ mappedRule .weights) ⌝ }
-    ensures { λ r. ⌜ r ≡ Fold points (line p a s u wu) f ⌝ }
+    ensures { λ r. ⌜ r ≡ Fold points (tetrahedronLine p a s u wu) f ⌝ }
 {
     let mut sums = f;
     let mut j = 0;
     while j < POINTS {
         let v = nodes[j];
         let w = line_weight(s.vol6, u, v, wu, weights[j]);
-        sums = add_line(p, a, s, nodes, weights, u, v, w, sums);
+        sums = add_tetrahedron_line(p, a, s, nodes, weights, u, v, w, sums);
         j += 1;
     }
     sums
@@ -156,14 +156,14 @@ fn tetrahedron_field(
     let mut sums = newtonian::zero_field();
     let mut i = 0;
     while i < POINTS {
-        sums = add_layer(p, a, s, nodes, weights, nodes[i], weights[i], sums);
+        sums = add_tetrahedron_layer(p, a, s, nodes, weights, nodes[i], weights[i], sums);
         i += 1;
     }
     sums
 }
 
 // The sums with the tetrahedron over face k.
-fn add_face(
+fn add_tetrahedron(
     p: Vector,
     a: Vector,
     verts: &[f64],
@@ -175,7 +175,7 @@ fn add_face(
 ) -> [Pair; FIELD_SIZE]
     requires { ⌜ Body (now verts) (now faces) × (k < faceCount (now faces)) ⌝ }
     requires { ⌜ (now nodes ≡ mappedRule .nodes) × (now weights ≡ mappedRule .weights) ⌝ }
-    ensures { λ r. ⌜ r ≡ addFace p a (now (verts .entry)) (now (faces .entry)) k sums ⌝ }
+    ensures { λ r. ⌜ r ≡ addTetrahedron p a (now (verts .entry)) (now (faces .entry)) k sums ⌝ }
 {
     let b = mesh::surface::corner(verts, faces, k, 0);
     let c = mesh::surface::corner(verts, faces, k, 1);
@@ -195,12 +195,12 @@ fn face_sums(
 ) -> [Pair; FIELD_SIZE]
     requires { ⌜ Body (now verts) (now faces) ⌝ }
     requires { ⌜ (now nodes ≡ mappedRule .nodes) × (now weights ≡ mappedRule .weights) ⌝ }
-    ensures { λ r. ⌜ r ≡ Fold (faceCount (now (faces .entry))) (addFace p a (now (verts .entry)) (now (faces .entry))) noSums ⌝ }
+    ensures { λ r. ⌜ r ≡ Fold (faceCount (now (faces .entry))) (addTetrahedron p a (now (verts .entry)) (now (faces .entry))) noSums ⌝ }
 {
     let mut sums = polyhedron_neumaier::no_sums();
     let mut k = 0;
     while k < faces.len() / 3 {
-        let next = add_face(p, a, verts, faces, nodes, weights, k, sums);
+        let next = add_tetrahedron(p, a, verts, faces, nodes, weights, k, sums);
         sums = next;
         k += 1;
     }

@@ -8,7 +8,7 @@ use Rattle.newtonian.specs.declared.Vector.{Vector}
 use Rattle.newtonian.specs.declared.Newtonian.{Newtonian}
 use Rattle.prism_pieces.specs.declared.AxisRule.{AxisRule}
 use Rattle.prism_pieces.specs.declared.Piece.the-variants.{Whole, Halves}
-use Rattle.prism_pieces.specs.Bisection.{pieceOf}
+use Rattle.prism_pieces.specs.Choice.{pieceOf}
 use Rattle.prism.specs.Prism.{join, pieces}
 
 module _ (rule : AxisRule) (i : ℕ) (p lo hi : Vector) where
@@ -17,15 +17,15 @@ module _ (rule : AxisRule) (i : ℕ) (p lo hi : Vector) where
   whole zero f e = simp e
   whole (suc n) f e = simp e
 
-  pub ends : (upper lower : Vector) → pieceOf rule p lo hi ≡ Halves upper lower → pieces rule i 0 p lo hi ≡ refused (TooDeep i)
+  pub ends : (lowerMax upperMin : Vector) → pieceOf rule p lo hi ≡ Halves lowerMax upperMin → pieces rule i 0 p lo hi ≡ refused (TooDeep i)
   unfolding pieces
-  ends upper lower e = simp e
+  ends lowerMax upperMin e = simp e
 
   pub halved :
-      (n : ℕ) (upper lower : Vector) →
+      (n : ℕ) (lowerMax upperMin : Vector) →
       (n ≡ 0 → ⊥) →
-      pieceOf rule p lo hi ≡ Halves upper lower →
-      pieces rule i n p lo hi ≡ join (pieces rule i (n - 1) p lo upper) (pieces rule i (n - 1) p lower hi)
+      pieceOf rule p lo hi ≡ Halves lowerMax upperMin →
+      pieces rule i n p lo hi ≡ join (pieces rule i (n - 1) p lo lowerMax) (pieces rule i (n - 1) p upperMin hi)
   unfolding pieces
-  halved zero upper lower h e = absurd (h refl)
-  halved (suc n) upper lower h e = simp (e, sub-one (suc n))
+  halved zero lowerMax upperMin h e = absurd (h refl)
+  halved (suc n) lowerMax upperMin h e = simp (e, sub-one (suc n))

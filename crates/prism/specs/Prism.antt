@@ -16,7 +16,7 @@ use Rattle.prism_pieces.specs.declared.AxisRule.{AxisRule}
 use Rattle.prism_pieces.specs.declared.AxisRule.the-variants.{LastOfEquals}
 use Rattle.prism_pieces.specs.declared.Piece.{Piece}
 use Rattle.prism_pieces.specs.declared.Piece.the-variants.{Whole, Halves}
-use Rattle.prism_pieces.specs.Bisection.{pieceOf}
+use Rattle.prism_pieces.specs.Choice.{pieceOf}
 
 -- ---- the pieces
 
@@ -26,15 +26,16 @@ join (refused r) b = refused r
 join (value f) (refused r) = refused r
 join (value f) (value g) = value (addFields f g)
 
--- a piece's field, or what becomes of its halves
+-- a piece's field, or what becomes of its halves: the lower one, which ends at lowerMax, and the upper one, which begins at upperMin
 abbrev pub fieldOr : Piece → (Vector → Vector → Answer Newtonian) → Answer Newtonian
 fieldOr (Whole f) halves = value f
-fieldOr (Halves upper lower) halves = halves upper lower
+fieldOr (Halves lowerMax upperMin) halves = halves lowerMax upperMin
 
 -- The field of the prism where at most n bisections are left. One more is refused by 10, which names the station by its number i.
 unfoldable pub pieces : AxisRule → ℕ → ℕ → Vector → Vector → Vector → Answer Newtonian
-pieces rule i zero p lo hi = fieldOr (pieceOf rule p lo hi) (λ upper lower. refused (TooDeep i))
-pieces rule i (suc n) p lo hi = fieldOr (pieceOf rule p lo hi) (λ upper lower. join (pieces rule i n p lo upper) (pieces rule i n p lower hi))
+pieces rule i zero p lo hi = fieldOr (pieceOf rule p lo hi) (λ lowerMax upperMin. refused (TooDeep i))
+pieces rule i (suc n) p lo hi =
+    fieldOr (pieceOf rule p lo hi) (λ lowerMax upperMin. join (pieces rule i n p lo lowerMax) (pieces rule i n p upperMin hi))
 
 -- document 01: the depth of the bisection
 abbrev pub maxBisections : ℕ
@@ -53,7 +54,7 @@ numbersWithinLimits p lo hi = vectorWithinLimits p && (vectorWithinLimits lo && 
 abbrev pub minSide : Float
 minSide = 10⁻⁶
 
--- the side, as rounded, is not below it
+-- the side from lo to hi, as rounded, is not below `minSide`
 unfoldable pub sideWithinLimits : Float → Float → Bool
 sideWithinLimits lo hi = le minSide (hi ⊖ lo)
 
@@ -64,7 +65,7 @@ sidesWithinLimits lo hi = sideWithinLimits (lo .x) (hi .x) && (sideWithinLimits 
 unfoldable pub prismVolume : Vector → Vector → Float
 prismVolume lo hi = (hi .x ⊖ lo .x) ⊗ (hi .y ⊖ lo .y) ⊗ (hi .z ⊖ lo .z)
 
--- 3, then 9
+-- the causes before the field: 3, then 9
 unfoldable pub causeOf : Vector → Vector → Vector → Cause
 causeOf p lo hi = orElse (unless (numbersWithinLimits p lo hi) OutOfLimits) (unless (sidesWithinLimits lo hi) TooThin)
 

@@ -34,13 +34,13 @@ fn pieces(rule: AxisRule, i: u32, n: u32, p: Vector, lo: Vector, hi: Vector) -> 
 {
     match prism_pieces::piece_of(rule, p, lo, hi) {
         Piece::Whole(f) => Field::At(f),
-        Piece::Halves(upper, lower) => {
+        Piece::Halves(lower_max, upper_min) => {
             if n == 0 {
                 return Field::Refused(Refusal::TooDeep(i));
             }
             join(
-                pieces(rule, i, n - 1, p, lo, upper),
-                pieces(rule, i, n - 1, p, lower, hi),
+                pieces(rule, i, n - 1, p, lo, lower_max),
+                pieces(rule, i, n - 1, p, upper_min, hi),
             )
         }
     }

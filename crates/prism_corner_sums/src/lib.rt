@@ -3,16 +3,16 @@ use newtonian::Hessian;
 use newtonian::Newtonian;
 use newtonian::Vector;
 ghost use mathlib.Core.Path.{_≡_};
-ghost use Rattle.prism_corner_sums.specs.CornerSums.{coordinate, logarithm, angle, cornerAt, sign, times, potentialTerm, gradientTerm, addTerms, cornerSums};
+ghost use Rattle.prism_corner_sums.specs.CornerSums.{coordinate, cornerLogarithm, cornerAngle, cornerAt, sign, zeroOrTimes, potentialTerm, gradientTerm, addCornerTerms, cornerSums};
 
 // A corner less the station, with the logarithm and the angle of each axis.
-pub struct Corner {
+pub struct PrismCorner {
     pub at: Vector,
     pub log: Vector,
     pub angle: Vector,
 }
 
-// -0 at an upper face makes a station on the face take the limit from outside.
+// −0 at an upper face makes a station on the face take the limit from outside.
 fn coordinate(upper: bool, p: f64, lo: f64, hi: f64) -> f64
     ensures { λ r. ⌜ r ≡ coordinate upper p lo hi ⌝ }
 {
@@ -25,8 +25,8 @@ fn coordinate(upper: bool, p: f64, lo: f64, hi: f64) -> f64
 }
 
 // ln(x + r) without cancellation.
-fn logarithm(p: f64, hi: f64, x: f64, y: f64, z: f64, r: f64) -> f64
-    ensures { λ l. ⌜ l ≡ logarithm p hi x y z r ⌝ }
+fn corner_logarithm(p: f64, hi: f64, x: f64, y: f64, z: f64, r: f64) -> f64
+    ensures { λ l. ⌜ l ≡ cornerLogarithm p hi x y z r ⌝ }
 {
     if p >= hi {
         return -carlson::ln(r - x);
@@ -37,8 +37,8 @@ fn logarithm(p: f64, hi: f64, x: f64, y: f64, z: f64, r: f64) -> f64
     carlson::ln((y * y + z * z) / (r - x))
 }
 
-fn angle(x: f64, y: f64, z: f64, r: f64) -> f64
-    ensures { λ a. ⌜ a ≡ angle x y z r ⌝ }
+fn corner_angle(x: f64, y: f64, z: f64, r: f64) -> f64
+    ensures { λ a. ⌜ a ≡ cornerAngle x y z r ⌝ }
 {
     let yz = y * z;
     if yz == 0.0 {
@@ -48,24 +48,24 @@ fn angle(x: f64, y: f64, z: f64, r: f64) -> f64
     }
 }
 
-fn corner_at(p: Vector, lo: Vector, hi: Vector, k: u32) -> Corner
+fn corner_at(p: Vector, lo: Vector, hi: Vector, k: u32) -> PrismCorner
     ensures { λ c. ⌜ c ≡ cornerAt p lo hi k ⌝ }
 {
     let x = coordinate(k % 2 == 1, p.x, lo.x, hi.x);
     let y = coordinate(k / 2 % 2 == 1, p.y, lo.y, hi.y);
     let z = coordinate(k / 4 % 2 == 1, p.z, lo.z, hi.z);
     let r = roots::root(x * x + y * y + z * z);
-    Corner {
+    PrismCorner {
         at: Vector { x, y, z },
         log: Vector {
-            x: logarithm(p.x, hi.x, x, y, z, r),
-            y: logarithm(p.y, hi.y, y, z, x, r),
-            z: logarithm(p.z, hi.z, z, x, y, r),
+            x: corner_logarithm(p.x, hi.x, x, y, z, r),
+            y: corner_logarithm(p.y, hi.y, y, z, x, r),
+            z: corner_logarithm(p.z, hi.z, z, x, y, r),
         },
         angle: Vector {
-            x: angle(x, y, z, r),
-            y: angle(y, z, x, r),
-            z: angle(z, x, y, r),
+            x: corner_angle(x, y, z, r),
+            y: corner_angle(y, z, x, r),
+            z: corner_angle(z, x, y, r),
         },
     }
 }
@@ -81,8 +81,8 @@ fn sign(k: u32) -> f64
 }
 
 // A zero coefficient times the infinite logarithm on an edge counts as zero.
-fn times(k: f64, v: f64) -> f64
-    ensures { λ r. ⌜ r ≡ times k v ⌝ }
+fn zero_or_times(k: f64, v: f64) -> f64
+    ensures { λ r. ⌜ r ≡ zeroOrTimes k v ⌝ }
 {
     if k == 0.0 { 0.0 } else { k * v }
 }
@@ -90,17 +90,17 @@ fn times(k: f64, v: f64) -> f64
 fn potential_term(x: f64, y: f64, z: f64, lx: f64, ax: f64) -> f64
     ensures { λ r. ⌜ r ≡ potentialTerm x y z lx ax ⌝ }
 {
-    times(y * z, lx) - times(0.5 * x * x, ax)
+    zero_or_times(y * z, lx) - zero_or_times(0.5 * x * x, ax)
 }
 
 fn gradient_term(x: f64, y: f64, z: f64, ly: f64, lz: f64, ax: f64) -> f64
     ensures { λ r. ⌜ r ≡ gradientTerm x y z ly lz ax ⌝ }
 {
-    times(y, lz) + times(z, ly) - times(x, ax)
+    zero_or_times(y, lz) + zero_or_times(z, ly) - zero_or_times(x, ax)
 }
 
-fn add_terms(s: f64, c: Corner, f: Newtonian) -> Newtonian
-    ensures { λ r. ⌜ r ≡ addTerms s c f ⌝ }
+fn add_corner_terms(s: f64, c: PrismCorner, f: Newtonian) -> Newtonian
+    ensures { λ r. ⌜ r ≡ addCornerTerms s c f ⌝ }
 {
     let at = c.at;
     let l = c.log;
@@ -144,7 +144,7 @@ pub fn corner_sums(p: Vector, lo: Vector, hi: Vector) -> Newtonian
 {
     let mut f = newtonian::zero_field();
     for k in 0..8u32 {
-        f = add_terms(sign(k), corner_at(p, lo, hi, k), f);
+        f = add_corner_terms(sign(k), corner_at(p, lo, hi, k), f);
     }
     f
 }

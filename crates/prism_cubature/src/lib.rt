@@ -1,54 +1,11 @@
 // The field of a rectangular prism by a Gauss-Legendre cubature of 1/r over it.
-use newtonian::Hessian;
 use newtonian::Newtonian;
 use newtonian::Vector;
 ghost use mathlib.Core.Path.{_≡_};
 ghost use Prim.Native.Nat.{_≤_};
 ghost use Rattle.legendre.specs.GaussLegendre.{maxOrder, gaussLegendre};
 ghost use Rattle.newtonian.specs.Fold.{Fold};
-ghost use Rattle.prism_cubature.specs.Cubature.{gradientTerms, rowTerms, addPoint, halfWidths, offset, pointWeight, point, line, cubature};
-
-fn gradient_terms(g: Vector, w: f64, d: Vector, q: f64) -> Vector
-    ensures { λ r. ⌜ r ≡ gradientTerms g w d q ⌝ }
-{
-    Vector {
-        x: g.x + w * d.x / q,
-        y: g.y + w * d.y / q,
-        z: g.z + w * d.z / q,
-    }
-}
-
-fn row_terms(t: Vector, w: f64, u: f64, d: Vector, e: Vector, q: f64) -> Vector
-    ensures { λ r. ⌜ r ≡ rowTerms t w u d e q ⌝ }
-{
-    Vector {
-        x: t.x + w * (3.0 * u * d.x - e.x) / q,
-        y: t.y + w * (3.0 * u * d.y - e.y) / q,
-        z: t.z + w * (3.0 * u * d.z - e.z) / q,
-    }
-}
-
-// The sums f with the terms of the point d, of weight w.
-pub fn add_point(w: f64, d: Vector, f: Newtonian) -> Newtonian
-    ensures { λ r. ⌜ r ≡ addPoint w d f ⌝ }
-{
-    let r2 = newtonian::dot(d, d);
-    let r = roots::root(r2);
-    let r5 = r2 * r2 * r;
-    let e = newtonian::diagonal(r2);
-    let ex = e.x;
-    let ey = e.y;
-    let ez = e.z;
-    Newtonian {
-        potential: f.potential + w / r,
-        gradient: gradient_terms(f.gradient, w, d, r2 * r),
-        hessian: Hessian {
-            x: row_terms(f.hessian.x, w, d.x, d, ex, r5),
-            y: row_terms(f.hessian.y, w, d.y, d, ey, r5),
-            z: row_terms(f.hessian.z, w, d.z, d, ez, r5),
-        },
-    }
-}
+ghost use Rattle.prism_cubature.specs.Cubature.{halfWidths, offset, pointWeight, point, line, cubature};
 
 pub fn half_widths(lo: Vector, hi: Vector) -> Vector
     ensures { λ r. ⌜ r ≡ halfWidths lo hi ⌝ }
@@ -93,7 +50,7 @@ fn add_line(
     let mut k = 0;
     while k < n {
         let z = offset(p.z, lo.z, hi.z, h.z, nz[k]);
-        sums = add_point(point_weight(w, wz[k], h), Vector { x, y, z }, sums);
+        sums = newtonian::add_point(point_weight(w, wz[k], h), Vector { x, y, z }, sums);
         k += 1;
     }
     sums

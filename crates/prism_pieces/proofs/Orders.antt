@@ -6,7 +6,7 @@ use native.Mathlib.Nat.{mul-le-mul, lt-of-le-of-lt}
 use borrow.Author.Tests.{leb-true}
 use lib.Dec.{leb}
 use Rattle.legendre.specs.GaussLegendre.{maxOrder}
-use Rattle.prism_pieces.specs.Bisection.{maxPoints, affordable}
+use Rattle.prism_pieces.specs.Choice.{maxPoints, affordable}
 
 pub product-fits : (a b : ℕ) {l m n : ℕ} → l ≤ a → m ≤ b → a * b < n → l * m < n
 product-fits a b p q r = lt-of-le-of-lt (mul-le-mul p q) r

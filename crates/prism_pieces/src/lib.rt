@@ -1,10 +1,11 @@
-// Which way the field of a rectangular prism is taken at a station: by cubature outside it where that is affordable, else
-// by corner sums, unless the prism is long and those are too rough: then it is bisected.
+// The choice of the way in which the field of a rectangular prism, or of a piece of one, is taken at a station: by cubature
+// outside it where that is affordable, else by corner sums, unless the prism is long and those are too rough: then crate
+// prism takes it by the halves given here.
 use newtonian::Newtonian;
 use newtonian::Vector;
 ghost use mathlib.Core.Path.{_≡_};
 ghost use mathlib.Core.Bool.{cond};
-ghost use Rattle.prism_pieces.specs.Bisection.{squaredOutside, distance, ceiling, order, affordable, longest, shortest, along, with, cornerDistance, farthest, tooRough, bisected, near, outside, pieceOf};
+ghost use Rattle.prism_pieces.specs.Choice.{squaredOutside, distance, ceiling, axisOrder, affordable, lastLongest, longest, shortest, along, with, cornerDistance, farthestCorner, tooRough, bisected, pieceNear, pieceOutside, pieceOf};
 
 // The rule for the longest axis where several are equally long.
 pub enum AxisRule {
@@ -17,14 +18,14 @@ pub enum Axis {
     Z,
 }
 
-// A piece of a prism: its field, or, where it is to be bisected, the lower half's upper corner and the upper half's
-// lower corner.
+// A piece of a prism: its field, or, where it is to be bisected, the corner max of its lower half and the corner min of its
+// upper half, in this order.
 pub enum Piece {
     Whole(Newtonian),
     Halves(Vector, Vector),
 }
 
-// -ln ε, as ln has it.
+// −ln ε, as ln has it.
 const MINUS_LN_EPSILON: f64 = 36.04365338911715;
 
 // The relative error that the corner sums may have.
@@ -65,8 +66,8 @@ fn ceiling(x: f64) -> u32
 }
 
 // The order that brings an axis of half-width h to round-off at the distance d.
-fn order(d: f64, h: f64) -> u32
-    ensures { λ r. ⌜ r ≡ order d h ⌝ }
+fn axis_order(d: f64, h: f64) -> u32
+    ensures { λ r. ⌜ r ≡ axisOrder d h ⌝ }
 {
     let rho = (d + roots::root(d * d + h * h)) / h;
     ceiling(MINUS_LN_EPSILON / (2.0 * carlson::ln(rho)))
@@ -87,17 +88,21 @@ fn affordable(l: u32, m: u32, n: u32) -> bool
     l * m * n <= MAX_POINTS
 }
 
+fn last_longest(h: Vector) -> Axis
+    ensures { λ r. ⌜ r ≡ lastLongest h ⌝ }
+{
+    if h.y >= h.x {
+        if h.z >= h.y { Axis::Z } else { Axis::Y }
+    } else {
+        if h.z >= h.x { Axis::Z } else { Axis::X }
+    }
+}
+
 fn longest(rule: AxisRule, h: Vector) -> Axis
     ensures { λ r. ⌜ r ≡ longest rule h ⌝ }
 {
     match rule {
-        AxisRule::LastOfEquals => {
-            if h.y >= h.x {
-                if h.z >= h.y { Axis::Z } else { Axis::Y }
-            } else {
-                if h.z >= h.x { Axis::Z } else { Axis::X }
-            }
-        }
+        AxisRule::LastOfEquals => last_longest(h),
     }
 }
 
@@ -155,8 +160,8 @@ fn corner_distance(p: Vector, lo: Vector, hi: Vector, k: u32) -> f64
     roots::root(-0.0 + x * x + y * y + z * z)
 }
 
-fn farthest(p: Vector, lo: Vector, hi: Vector) -> f64
-    ensures { λ r. ⌜ r ≡ farthest p lo hi ⌝ }
+fn farthest_corner(p: Vector, lo: Vector, hi: Vector) -> f64
+    ensures { λ r. ⌜ r ≡ farthestCorner p lo hi ⌝ }
 {
     let mut m = 0.0;
     for k in 0..8u32 {
@@ -176,37 +181,40 @@ fn too_rough(r: f64, v: f64) -> bool
 fn bisected(a: Axis, lo: Vector, hi: Vector) -> Piece
     ensures { λ r. ⌜ r ≡ bisected a lo hi ⌝ }
 {
-    let t = 0.5 * (along(a, lo) + along(a, hi));
-    Piece::Halves(with(a, t, hi), with(a, t, lo))
+    let mid = 0.5 * (along(a, lo) + along(a, hi));
+    let lower_max = with(a, mid, hi);
+    let upper_min = with(a, mid, lo);
+    Piece::Halves(lower_max, upper_min)
 }
 
 // p is outside, and the cubature not affordable.
-fn near(rule: AxisRule, p: Vector, lo: Vector, hi: Vector, h: Vector) -> Piece
-    ensures { λ r. ⌜ r ≡ near rule p lo hi h ⌝ }
+fn piece_near(rule: AxisRule, p: Vector, lo: Vector, hi: Vector, h: Vector) -> Piece
+    ensures { λ r. ⌜ r ≡ pieceNear rule p lo hi h ⌝ }
 {
     let s = prism_corner_sums::corner_sums(p, lo, hi);
     let a = longest(rule, h);
     if along(a, h) > 2.0 * shortest(h) {
-        if too_rough(farthest(p, lo, hi), s.potential) {
+        if too_rough(farthest_corner(p, lo, hi), s.potential) {
             return bisected(a, lo, hi);
         }
+        // A return of its own: without it the compiled cubature gets longer.
         return Piece::Whole(s);
     }
     Piece::Whole(s)
 }
 
 // p is outside, at the distance d.
-fn outside(rule: AxisRule, d: f64, p: Vector, lo: Vector, hi: Vector) -> Piece
-    ensures { λ r. ⌜ r ≡ outside rule d p lo hi ⌝ }
+fn piece_outside(rule: AxisRule, d: f64, p: Vector, lo: Vector, hi: Vector) -> Piece
+    ensures { λ r. ⌜ r ≡ pieceOutside rule d p lo hi ⌝ }
 {
     let h = prism_cubature::half_widths(lo, hi);
-    let l = order(d, h.x);
-    let m = order(d, h.y);
-    let n = order(d, h.z);
+    let l = axis_order(d, h.x);
+    let m = axis_order(d, h.y);
+    let n = axis_order(d, h.z);
     if affordable(l, m, n) {
         return Piece::Whole(prism_cubature::cubature(p, lo, hi, l, m, n));
     }
-    near(rule, p, lo, hi, h)
+    piece_near(rule, p, lo, hi, h)
 }
 
 // The field of the prism as a whole, or its halves.
@@ -215,7 +223,7 @@ pub fn piece_of(rule: AxisRule, p: Vector, lo: Vector, hi: Vector) -> Piece
 {
     let d = distance(p, lo, hi);
     if d > 0.0 {
-        return outside(rule, d, p, lo, hi);
+        return piece_outside(rule, d, p, lo, hi);
     }
     Piece::Whole(prism_corner_sums::corner_sums(p, lo, hi))
 }

@@ -1,2 +1,2 @@
 -- Laws of the line.
-mod Text
+pub mod Text

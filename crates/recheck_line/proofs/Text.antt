@@ -6,13 +6,18 @@ use Prim.Native.Nat.{ℕ, zero, suc, _+_, _-_, _*_, _/_, _^_, _≤_, _<_}
 use native.Mathlib.Nat.{pow-suc, le-of-lt, zero-add}
 use native.Mathlib.Numerals.{add-one}
 use native.Mathlib.Omega.{arith}
-use lib.Dec.{ltb}
+use lib.Dec.{ltb, leb}
 use lib.ListN.{length, getD, set, take, length-append}
 use lib.Seq.{sets, length-sets, length-take-le, take-suc}
 use borrow.Author.Tests.{lt-ltb, le-ltb}
 use Rattle.io.specs.Digits.{digits, Fewest}
+use Rattle.refusals.specs.declared.Refusal.the-variants.{TooMany}
+use Rattle.refusals.specs.Numbers.{numberOf, placeOf}
+use Rattle.sheet.specs.declared.Verdict.{Verdict}
+use Rattle.sheet.specs.declared.Verdict.the-variants.{Accepted, Refused}
+use Rattle.sheet.specs.Checker.{verdict}
 use Rattle.sheet_layout.proofs.Stores.{sets-then}
-use Rattle.recheck_line.specs.Line.{places, decimal, lineOf, Holds}
+use Rattle.recheck_line.specs.Line.{places, decimal, acceptedWord, refusedWord, lineOf, verdictLine, maxInput, recheckLine, lineRoom, LineAtStart}
 
 ten-pos : (k : ℕ) → 0 < 10 ^ k
 ten-pos zero = omega arith
@@ -95,9 +100,31 @@ module _ (l word : List ℕ) (x y p q : ℕ) (ep : p ≡ length (decimal x)) (eq
       let j = joined l (word ++ decimal x ++ (32 ∷ []) ++ decimal y) (10 ∷ []) line-end i e (simp (length-append, length-append, length-append) (omega (arith, ep, eq))) in
       j ∙ simp append-assoc
 
-  pub line-put : {s t u v w : List ℕ} → line-end + 1 ≤ length l → s ≡ sets l 0 word → t ≡ sets s (length word) (decimal x) → u ≡ sets t digits-end (32 ∷ [])
-      → v ≡ sets u (digits-end + 1) (decimal y) → w ≡ sets v line-end (10 ∷ []) → Holds (line-end + 1) w l (lineOf word x y)
-  line-put {w = w} r a b c d e =
-      let g = line-bytes a b c d e in
-      let n : length w ≡ length l = ap length g ∙ length-sets l 0 (lineOf word x y) in
-      record { count = sym line-length; bytes = g; fits = omega arith; whole = sym (length-take-le (line-end + 1) w (omega arith)) }
+  pub line-put : {s t u v w : List ℕ} → s ≡ sets l 0 word → t ≡ sets s (length word) (decimal x) → u ≡ sets t digits-end (32 ∷ [])
+      → v ≡ sets u (digits-end + 1) (decimal y) → w ≡ sets v line-end (10 ∷ []) → LineAtStart (line-end + 1) w l (lineOf word x y)
+  line-put a b c d e = record { count = sym line-length; bytes = line-bytes a b c d e }
+
+-- ---- no line is longer than `lineRoom`
+
+length-digits : (k n : ℕ) → length (digits 10 k n) ≡ k
+length-digits zero n = refl
+length-digits (suc k) n = simp length-append (rw (length-digits k (n / 10)) (omega arith))
+
+decimal-most : (n : ℕ) → length (decimal n) ≤ 20
+unfolding decimal
+decimal-most n = rw (length-digits (places 19 n) n) (places-most 19 n)
+
+line-of-most : (word : List ℕ) (x y : ℕ) → length word ≤ 9 → length (lineOf word x y) ≤ lineRoom
+line-of-most word x y h = omega (arith, line-length [] word x y (length (decimal x)) (length (decimal y)) refl refl, decimal-most x, decimal-most y)
+
+line-most : (v : Verdict) → length (verdictLine v) ≤ lineRoom
+unfolding verdictLine
+line-most (Accepted kind stations) = line-of-most acceptedWord kind stations (omega arith)
+line-most (Refused r) = line-of-most refusedWord (numberOf r) (placeOf r) (omega arith)
+
+-- so a line of `recheck_line` ends within the buffer
+pub line-fits : (b : List ℕ) {n : ℕ} {new old : List ℕ} → LineAtStart n new old (recheckLine b) → lineRoom ≤ length old → n ≤ length new
+unfolding recheckLine
+line-fits b {old = old} h r =
+    let m = line-most (cond (leb (length b) maxInput) (verdict b) (Refused TooMany)) in
+    omega (arith, m, h .count, ap length (h .bytes), length-sets old 0 (recheckLine b))

@@ -2,9 +2,9 @@
 use mathlib.Core.Path.{_≡_}
 use mathlib.Core.Bool.{cond}
 use mathlib.Core.List.{List, [], _∷_, _++_}
-use Prim.Native.Nat.{ℕ, zero, suc, _/_, _≤_}
+use Prim.Native.Nat.{ℕ, zero, suc, _/_}
 use lib.Dec.{ltb, leb}
-use lib.ListN.{length, take}
+use lib.ListN.{length}
 use lib.Seq.{sets}
 use Rattle.io.specs.Digits.{digits}
 use Rattle.refusals.specs.declared.Refusal.the-variants.{TooMany}
@@ -46,13 +46,11 @@ recheckLine b = verdictLine (cond (leb (length b) maxInput) (verdict b) (Refused
 
 -- ---- a line in a lent buffer
 
--- no line is longer
+-- no line is longer (`line-most`, proofs/Text)
 abbrev pub lineRoom : ℕ
 lineRoom = 51
 
 -- the buffer, which was `old`, starts with the line, of n bytes, and is otherwise as it was
-pub record Holds (n : ℕ) (new old line : List ℕ) : Type 0 where
+pub record LineAtStart (n : ℕ) (new old line : List ℕ) : Type 0 where
   pub count : n ≡ length line
   pub bytes : new ≡ sets old 0 line
-  pub fits : n ≤ length new
-  pub whole : n ≡ length (take n new)

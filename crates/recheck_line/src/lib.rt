@@ -3,7 +3,7 @@ ghost use mathlib.Core.Path.{_≡_};
 ghost use Prim.Native.Nat.{_+_, _≤_};
 ghost use lib.ListN.{length};
 ghost use lib.Seq.{sets};
-ghost use Rattle.recheck_line.specs.Line.{decimal, lineOf, lineRoom, verdictLine, recheckLine, Holds};
+ghost use Rattle.recheck_line.specs.Line.{decimal, lineOf, lineRoom, verdictLine, recheckLine, LineAtStart};
 use refusals::Refusal;
 use sheet::Verdict;
 
@@ -36,7 +36,7 @@ fn put_decimal(out: &mut [u8], at: usize, n: u32) -> usize
 // Writes a word, two numbers and the line's end, and answers how many bytes that is.
 fn put_line(out: &mut [u8], word: &[u8], x: u32, y: u32) -> usize
     requires { ⌜ length (now word) + 42 ≤ length (now out) ⌝ }
-    ensures { λ r. ⌜ Holds r (now (out .exit)) (now (out .entry)) (lineOf (now (word .entry)) x y) ⌝ }
+    ensures { λ r. ⌜ LineAtStart r (now (out .exit)) (now (out .entry)) (lineOf (now (word .entry)) x y) ⌝ }
 {
     put(out, 0, word);
     let a = word.len();
@@ -51,7 +51,7 @@ fn put_line(out: &mut [u8], word: &[u8], x: u32, y: u32) -> usize
 // Writes the line of a verdict at the start of out, and answers how many bytes it has.
 pub fn verdict_line(v: Verdict, out: &mut [u8]) -> usize
     requires { ⌜ lineRoom ≤ length (now out) ⌝ }
-    ensures { λ r. ⌜ Holds r (now (out .exit)) (now (out .entry)) (verdictLine v) ⌝ }
+    ensures { λ r. ⌜ LineAtStart r (now (out .exit)) (now (out .entry)) (verdictLine v) ⌝ }
 {
     match v {
         Verdict::Accepted(kind, stations) => put_line(out, b"accepted ", kind, stations),
@@ -62,7 +62,7 @@ pub fn verdict_line(v: Verdict, out: &mut [u8]) -> usize
 // Writes the line that `recheck` prints of its input at the start of out, and answers how many bytes it has.
 pub fn recheck_line(input: &[u8], out: &mut [u8]) -> usize
     requires { ⌜ lineRoom ≤ length (now out) ⌝ }
-    ensures { λ r. ⌜ Holds r (now (out .exit)) (now (out .entry)) (recheckLine (now (input .entry))) ⌝ }
+    ensures { λ r. ⌜ LineAtStart r (now (out .exit)) (now (out .entry)) (recheckLine (now (input .entry))) ⌝ }
 {
     if MAX_INPUT < input.len() {
         return verdict_line(Verdict::Refused(Refusal::TooMany), out);

@@ -2,7 +2,7 @@
 -- Definitions only.
 use Rattle.refusals.specs.declared.Refusal.{Refusal}
 use Rattle.refusals.specs.declared.Cause.{Cause}
-use Rattle.refusals.specs.declared.Cause.the-variants.{None, Refused}
+use Rattle.refusals.specs.Causes.{causeOr}
 
 pub data Answer (S : Type 0) : Type 0 where
   value : S → Answer S
@@ -10,5 +10,4 @@ pub data Answer (S : Type 0) : Type 0 where
 
 -- a cause of refusal, or else the answer
 abbrev pub orAnswer : {S : Type 0} → Cause → Answer S → Answer S
-orAnswer None a = a
-orAnswer (Refused r) a = refused r
+orAnswer c a = causeOr refused c a

@@ -15,6 +15,11 @@ abbrev pub unless : Bool → Refusal → Cause
 unless true r = None
 unless false r = Refused r
 
+-- an answer's own case of the refusal, where there is a cause; or else the answer
+abbrev pub causeOr : {A : Type 0} → (Refusal → A) → Cause → A → A
+causeOr refused None a = a
+causeOr refused (Refused r) a = refused r
+
 -- the first cause among c 0, c 1, .., c (n - 1)
 unfoldable pub firstOf : ℕ → (ℕ → Cause) → Cause
 firstOf zero c = None

@@ -50,10 +50,10 @@ valuesOf WrongVolume = []
 valuesOf (WrongRow station) = station ∷ []
 
 -- a face or a station stands alone; an edge is no place, and prints as 0
-abbrev pub single : List ℕ → ℕ
-single (v ∷ []) = v
-single (v ∷ w ∷ vs) = 0
-single [] = 0
+abbrev pub singleValue : List ℕ → ℕ
+singleValue (v ∷ []) = v
+singleValue (v ∷ w ∷ vs) = 0
+singleValue [] = 0
 
 abbrev pub placeOf : Refusal → ℕ
-placeOf r = single (valuesOf r)
+placeOf r = singleValue (valuesOf r)

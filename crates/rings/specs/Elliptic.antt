@@ -1,11 +1,12 @@
--- The complete elliptic integrals K(m) and E(m), of parameter m = k², by the arithmetic-geometric mean (Abramowitz & Stegun 17.6), with the roundings in the order of the Rust.
--- Definitions only.
-use mathlib.Core.Bool.{Bool, not, _&&_, cond}
+-- The complete elliptic integrals K(m) and E(m), of parameter m = k², by the arithmetic-geometric mean (Abramowitz & Stegun 17.6), with the roundings in the order
+-- of the Rust. Definitions only.
+use mathlib.Core.Bool.{Bool, not, _&&_}
 use Prim.Native.Nat.{ℕ}
 use lib.Ieee.{Float, lt, le}
 use Rattle.doubles.specs.Rounded.{_⊕_, _⊖_, _⊗_, _⊘_}
 use Rattle.doubles.specs.Constants.{0·0, 0·5, 1·0, 2·0, ε, π/2}
 use Rattle.roots.specs.Root.{Root}
+use Rattle.refusals.specs.Causes.{unless, causeOr}
 use Rattle.refusals.specs.declared.Refusal.the-variants.{OutsideDomain}
 use Rattle.carlson.specs.Rounds.{rounds}
 use Rattle.rings.specs.declared.Mean.{Mean}
@@ -39,6 +40,6 @@ elliptic m =
     let K = π/2 ⊘ s .a in
     record { k = K; e = K ⊗ (1·0 ⊖ s .sum) }
 
--- the public call, for 0 ≤ m < 1
+-- the public call, refused by 14 unless 0 ≤ m < 1
 unfoldable pub completeElliptic : Float → CompleteIntegrals
-completeElliptic m = cond (le 0·0 m && lt m 1·0) (Values (elliptic m)) (Refused OutsideDomain)
+completeElliptic m = causeOr Refused (unless (le 0·0 m && lt m 1·0) OutsideDomain) (Values (elliptic m))

@@ -4,8 +4,8 @@ use refusals::Refusal;
 ghost use mathlib.Core.Path.{_≡_};
 ghost use Rattle.carlson.specs.Rounds.{rounds};
 ghost use Rattle.rings.specs.Elliptic.{maxMeans, nextMean, meanTest, elliptic, completeElliptic};
-ghost use Rattle.rings.specs.Cel.{allFinite, cel};
-ghost use Rattle.rings.specs.Ring.{nearAxis, offAxis, ∂ρ, ringAt, inDomain, ringWithin, ring};
+ghost use Rattle.rings.specs.Cel.{fourFinite, cel};
+ghost use Rattle.rings.specs.Ring.{farSquared, nearSquared, ringParameter, nearAxis, offAxis, ∂ρ, ringAt, ringWithinLimits, ring};
 
 // The Rust's loop ends after 64 rounds and refuses nothing.
 const MAX_MEANS: u32 = 64;
@@ -105,47 +105,39 @@ pub fn elliptic(m: f64) -> Complete
 pub fn complete_elliptic(m: f64) -> CompleteIntegrals
     ensures { λ r. ⌜ r ≡ completeElliptic m ⌝ }
 {
-    if 0.0 <= m {
-        if m < 1.0 {
-            return CompleteIntegrals::Values(elliptic(m));
-        }
+    if (0.0 <= m) & (m < 1.0) {
+        return CompleteIntegrals::Values(elliptic(m));
     }
     CompleteIntegrals::Refused(Refusal::OutsideDomain)
 }
 
 // ---- cel
 
-fn all_finite(kc: f64, p: f64, a: f64, b: f64) -> bool
-    ensures { λ r. ⌜ r ≡ allFinite kc p a b ⌝ }
+fn four_finite(kc: f64, p: f64, a: f64, b: f64) -> bool
+    ensures { λ r. ⌜ r ≡ fourFinite kc p a b ⌝ }
 {
-    if doubles::is_finite(kc) {
-        if doubles::is_finite(p) {
-            if doubles::is_finite(a) {
-                return doubles::is_finite(b);
-            }
-        }
-    }
-    false
+    doubles::is_finite(kc) & doubles::is_finite(p) & doubles::is_finite(a) & doubles::is_finite(b)
 }
 
 // Bulirsch's cel(k_c, p, a, b), for finite arguments and p > 0: refused by 14 outside that domain.
 pub fn cel(kc: f64, p: f64, a: f64, b: f64) -> Integral
     ensures { λ r. ⌜ r ≡ cel kc p a b ⌝ }
 {
-    if all_finite(kc, p, a, b) {
-        if 0.0 < p {
-            return Integral::Value(special_bulirsch::cel_of(kc, p, a, b));
-        }
+    if four_finite(kc, p, a, b) & (0.0 < p) {
+        return Integral::Value(special_bulirsch::cel_of(kc, p, a, b));
     }
     Integral::Refused(Refusal::OutsideDomain)
 }
 
 // ---- the ring
 
-// The derivative by ρ near the axis, where u is R^2 + z^2.
-fn near_axis(rho: f64, r2: f64, z2: f64, u: f64) -> f64
-    ensures { λ r. ⌜ r ≡ nearAxis rho r2 z2 u ⌝ }
+// The derivative by ρ near the axis.
+fn near_axis(radius: f64, rho: f64, z: f64) -> f64
+    ensures { λ r. ⌜ r ≡ nearAxis radius rho z ⌝ }
 {
+    let r2 = radius * radius;
+    let z2 = z * z;
+    let u = r2 + z2;
     let w = roots::root(u);
     0.5 * rho * (r2 - 2.0 * z2) / (u * u * w)
         - rho * rho * rho / 16.0 * (-24.0 * z2 * z2 + 72.0 * z2 * r2 - 9.0 * r2 * r2)
@@ -153,8 +145,9 @@ fn near_axis(rho: f64, r2: f64, z2: f64, u: f64) -> f64
 }
 
 // The derivative by ρ elsewhere.
-fn off_axis(radius: f64, rho: f64, s: f64, d: f64) -> f64
-    ensures { λ r. ⌜ r ≡ offAxis radius rho s d ⌝ }
+fn off_axis(radius: f64, rho: f64, z: f64, s: f64, d: f64) -> f64
+    requires { ⌜ (s ≡ farSquared radius rho z) × (d ≡ nearSquared radius rho z) ⌝ }
+    ensures { λ r. ⌜ r ≡ offAxis radius rho z ⌝ }
 {
     let kc = roots::root(d / s); // √(1 - m), without the subtraction near the wire
     let w = roots::root(s);
@@ -164,20 +157,21 @@ fn off_axis(radius: f64, rho: f64, s: f64, d: f64) -> f64
 
 // The derivative by ρ.
 fn by_rho(radius: f64, rho: f64, z: f64, s: f64, d: f64) -> f64
-    ensures { λ r. ⌜ r ≡ ∂ρ radius rho z s d ⌝ }
+    requires { ⌜ (s ≡ farSquared radius rho z) × (d ≡ nearSquared radius rho z) ⌝ }
+    ensures { λ r. ⌜ r ≡ ∂ρ radius rho z ⌝ }
 {
-    let u = radius * radius + z * z;
     if rho == 0.0 {
         return 0.0;
     }
-    if rho * rho < 9e-8 * u {
-        return near_axis(rho, radius * radius, z * z, u);
+    if rho * rho < 9e-8 * (radius * radius + z * z) {
+        return near_axis(radius, rho, z);
     }
-    off_axis(radius, rho, s, d)
+    off_axis(radius, rho, z, s, d)
 }
 
 fn ring_at(radius: f64, rho: f64, z: f64, s: f64, d: f64, m: f64) -> RingAverage
-    ensures { λ r. ⌜ r ≡ ringAt radius rho z s d m ⌝ }
+    requires { ⌜ (s ≡ farSquared radius rho z) × (d ≡ nearSquared radius rho z) × (m ≡ ringParameter radius rho z) ⌝ }
+    ensures { λ r. ⌜ r ≡ ringAt radius rho z ⌝ }
 {
     let c = elliptic(m);
     let w = roots::root(s);
@@ -188,31 +182,10 @@ fn ring_at(radius: f64, rho: f64, z: f64, s: f64, d: f64, m: f64) -> RingAverage
     }
 }
 
-// What refusal 14 asks.
-fn in_domain(radius: f64, rho: f64, d: f64, m: f64) -> bool
-    ensures { λ r. ⌜ r ≡ inDomain radius rho d m ⌝ }
+fn ring_within_limits(radius: f64, rho: f64, z: f64) -> bool
+    ensures { λ r. ⌜ r ≡ ringWithinLimits radius rho z ⌝ }
 {
-    if 0.0 < radius {
-        if 0.0 <= rho {
-            if 0.0 < d {
-                return m < 1.0;
-            }
-        }
-    }
-    false
-}
-
-// The ring within the limits of refusal 3.
-fn ring_within(radius: f64, rho: f64, z: f64) -> RingAnswer
-    ensures { λ r. ⌜ r ≡ ringWithin radius rho z ⌝ }
-{
-    let s = (radius + rho) * (radius + rho) + z * z;
-    let d = (radius - rho) * (radius - rho) + z * z;
-    let m = 4.0 * radius * rho / s;
-    if in_domain(radius, rho, d, m) {
-        return RingAnswer::Value(ring_at(radius, rho, z, s, d, m));
-    }
-    RingAnswer::Refused(Refusal::OutsideDomain)
+    doubles::within_limits(radius) & doubles::within_limits(rho) & doubles::within_limits(z)
 }
 
 // The average of 1/r over a ring, seen from (ρ, z), and its gradient: refused by 3, and by 14 unless
@@ -220,12 +193,14 @@ fn ring_within(radius: f64, rho: f64, z: f64) -> RingAnswer
 pub fn ring(radius: f64, rho: f64, z: f64) -> RingAnswer
     ensures { λ r. ⌜ r ≡ ring radius rho z ⌝ }
 {
-    if doubles::within_limits(radius) {
-        if doubles::within_limits(rho) {
-            if doubles::within_limits(z) {
-                return ring_within(radius, rho, z);
-            }
+    if ring_within_limits(radius, rho, z) {
+        let s = (radius + rho) * (radius + rho) + z * z;
+        let d = (radius - rho) * (radius - rho) + z * z;
+        let m = 4.0 * radius * rho / s;
+        if (0.0 < radius) & (0.0 <= rho) & (0.0 < d) & (m < 1.0) {
+            return RingAnswer::Value(ring_at(radius, rho, z, s, d, m));
         }
+        return RingAnswer::Refused(Refusal::OutsideDomain);
     }
     RingAnswer::Refused(Refusal::OutOfLimits)
 }

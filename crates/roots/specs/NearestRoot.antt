@@ -1,9 +1,10 @@
--- What it is for r to be the double nearest √x: strictly nearer than every other double, so that there is never a tie. `RootIsNearest` shows it of the root. Definitions only.
+-- What it is for r to be the double nearest √x: strictly nearer than every other double, so that there is never a tie. `RootIsNearest` shows it of the root.
+-- Definitions only.
 use Prim.Native.Nat.{ℕ, _+_, _*_, _<_}
 use lib.Dec.{T}
 use lib.Ieee.{Float, binary64, fits, lt}
 use lib.Ieee.Positive.{num, den}
-use Rattle.doubles.specs.Magnitude.{nonneg}
+use Rattle.doubles.specs.Magnitude.{finiteUnsigned}
 
 -- The number halfway between r and y is (r + y) / 2, so √x lies below it exactly where 4 x is below (r + y)².
 -- With each number as the fraction `num` / `den`, both times the denominators:
@@ -14,9 +15,9 @@ unfoldable pub sumSquared : Float → Float → Float → ℕ
 sumSquared x r y = let s = num r * den y + num y * den r in s * s * den x
 
 pub record NearestRoot (x r : Float) : Type 0 where
-  -- r is a double, finite and not negative
+  -- r is a double, finite and from +0 up
   pub double : T (fits binary64 r)
-  pub finite : T (nonneg r)
+  pub from-zero : T (finiteUnsigned r)
   -- √x is below halfway to every double y above r, and above halfway to every double y below r
-  pub above : (y : Float) → T (fits binary64 y) → T (nonneg y) → T (lt r y) → fourTimes x r y < sumSquared x r y
-  pub below : (y : Float) → T (fits binary64 y) → T (nonneg y) → T (lt y r) → sumSquared x r y < fourTimes x r y
+  pub nearer-than-above : (y : Float) → T (fits binary64 y) → T (finiteUnsigned y) → T (lt r y) → fourTimes x r y < sumSquared x r y
+  pub nearer-than-below : (y : Float) → T (fits binary64 y) → T (finiteUnsigned y) → T (lt y r) → sumSquared x r y < fourTimes x r y

@@ -1,4 +1,5 @@
--- What the code computes on the way to a root: the root of a whole number, rounded to a whole number. A reader of the root's definition does not need it. Definitions only.
+-- What the code computes on the way to a root: the root of a whole number, rounded to a whole number. A reader of the root's definition does not need it.
+-- Definitions only.
 use mathlib.Core.Path.{_≡_}
 use Prim.Native.Nat.{ℕ, _+_, _-_, _*_, _/_, _%_, _^_, _≤_, _<_}
 use lib.Ieee.{binary64, ofBits}
@@ -9,10 +10,10 @@ abbrev pub Near : ℕ → ℕ → Type 0
 Near M c = (c * c < M + c) × (M ≤ c * c + c)
 
 -- the 53 digits of a normal number's pattern b, at 2 ^ 63 where the exponent's field is even, and at 2 ^ 62 where it is odd
-unfoldable pub scaled : ℕ → ℕ
-scaled b = (2 ^ 52 + b % 2 ^ 52) * 2 ^ (11 - b / 2 ^ 52 % 2)
+unfoldable pub scaledSignificand : ℕ → ℕ
+scaledSignificand b = (2 ^ 52 + b % 2 ^ 52) * 2 ^ (11 - b / 2 ^ 52 % 2)
 
 -- c, added to an exponent's field, is the pattern of the root of the number with the pattern b
 pub record RootFrom (b twice c : ℕ) : Type 0 where
-  pub small : twice / 2 * 2 ^ 52 % 2 ^ 64 + c < 2047 * 2 ^ 52
-  pub is : ofBits binary64 (twice / 2 * 2 ^ 52 % 2 ^ 64 + c) ≡ Root (ofBits binary64 b)
+  pub in-range : twice / 2 * 2 ^ 52 % 2 ^ 64 + c < 2047 * 2 ^ 52
+  pub is-root : ofBits binary64 (twice / 2 * 2 ^ 52 % 2 ^ 64 + c) ≡ Root (ofBits binary64 b)

@@ -1,8 +1,10 @@
--- How `rootOf` rounds √n: to c * 2 ^ k, with √n from (c - 1/2) * 2 ^ k to (c + 1/2) * 2 ^ k. So c * 2 ^ k is nearest to √n among all numbers of 53 digits. Assumes nothing.
+-- How `rootOf` rounds √n. States: `rootOf-rounded`: it rounds to c * 2 ^ k, with √n from (c - 1/2) * 2 ^ k to (c + 1/2) * 2 ^ k (`RoundedRoot`); `nearest-above` and
+-- `nearest-below`: √n is on c * 2 ^ k's side of the number halfway to any other number of 53 digits; `root-ge` and `root-le`: c * 2 ^ k is on the same side of such
+-- a number as √n. Assumes nothing.
 use mathlib.Core.Path.{_≡_, refl, sym, ap, _∙_, subst}
 use mathlib.Core.Logic.{_⊎_, inl, inr, ⊎-elim}
 use Prim.Native.Nat.{ℕ, zero, suc, _+_, _-_, _*_, _/_, _%_, _^_, _≤_, _<_, compare, Ordering, Ordering·lt, Ordering·eq, Ordering·gt}
-use native.Mathlib.Nat.{le-trans, le-of-eq, le-of-lt, lt-of-lt-of-le, lt-of-le-of-lt, lt-of-not-le, not-le-of-lt, mul-le-mul, mul-le-mul-left, mul-le-mul-right, mul-lt-mul-of-pos-left, mul-lt-mul-of-pos-right, lt-of-mul-lt-mul-right, mul-assoc, div-mul-le-self, lt-div-mul-add, le-div-iff-mul-le}
+use native.Mathlib.Nat.{le-trans, le-of-eq, le-of-lt, lt-of-lt-of-le, lt-of-le-of-lt, lt-of-not-le, mul-le-mul, mul-le-mul-left, mul-le-mul-right, mul-lt-mul-of-pos-left, mul-lt-mul-of-pos-right, lt-of-mul-lt-mul-right, mul-assoc, div-mul-le-self, lt-div-mul-add, le-div-iff-mul-le}
 use native.Mathlib.Omega.{arith}
 use native.Mathlib.Decide.{decLe}
 use mathlib.Core.Bool.{false, not}
@@ -15,16 +17,16 @@ use lib.Ieee.Nearest.{nearest-ge}
 use Rattle.roots.specs.Root.{isqrt, rootOf}
 use Rattle.roots.specs.WholeRoot.{isqrt-law}
 
--- All is doubled and squared, P being 2 ^ k.
+-- (x * P)², P being 2 ^ k: to compare, all is doubled and squared
 abbrev pub sq : ℕ → ℕ → ℕ
 sq P x = x * P * (x * P)
 
-pub record Rounded (n c k : ℕ) : Type 0 where
+pub record RoundedRoot (n c k : ℕ) : Type 0 where
   -- √n is within half a step of c * 2 ^ k
   pub low : sq (2 ^ k) (2 * c - 1) ≤ 4 * n
   pub high : 4 * n ≤ sq (2 ^ k) (2 * c + 1)
   -- c has at most 53 digits, or is 2 ^ 53
-  pub digits : c ≤ 2 ^ 53
+  pub at-most-53-digits : c ≤ 2 ^ 53
   -- c has 53 digits, and so has √n before it is rounded, or 2 ^ k is the format's smallest value
   pub finest : ((2 ^ 52 ≤ c) × (sq (2 ^ k) (2 ^ 52) ≤ n)) ⊎ (k ≡ 0)
 
@@ -33,96 +35,93 @@ pub record Rounded (n c k : ℕ) : Type 0 where
 sq-le : (P x y : ℕ) → x ≤ y → sq P x ≤ sq P y
 sq-le P x y h = let g : x * P ≤ y * P = mul-le-mul-right P h in mul-le-mul g g
 
-pub sq-lt-back : (a b : ℕ) → a * a < b * b → a < b
-sq-lt-back a b h = lt-of-not-le (λ (g : b ≤ a). not-le-of-lt h (mul-le-mul g g))
+-- ---- the three cases of the comparison: √n is within half a step of c. D is 4 * n
 
--- ---- the three cases of the comparison. D is 4 * n
-
-Ends : ℕ → ℕ → ℕ → Type 0
-Ends P D c = (sq P (2 * c - 1) ≤ D) × (D ≤ sq P (2 * c + 1))
+HalfStepAround : ℕ → ℕ → ℕ → Type 0
+HalfStepAround P D c = (sq P (2 * c - 1) ≤ D) × (D ≤ sq P (2 * c + 1))
 
 module _ (P D q : ℕ) (lo : sq P (2 * q) ≤ D) (hi : D < sq P (2 * q + 2)) where
-  ends : (o : Ordering) → (T (isLe o) → D ≤ sq P (2 * q + 1)) → (T (not (isLe o)) → sq P (2 * q + 1) < D) → (T (isEq o) → D ≡ sq P (2 * q + 1)) → Ends P D (nearest q o)
-  unfolding Ends
-  ends Ordering·lt a b e = (le-trans (sq-le P (2 * q - 1) (2 * q) (omega arith)) lo, a tt)
-  ends Ordering·eq a b e =
+  half-step-around : (o : Ordering) → (T (isLe o) → D ≤ sq P (2 * q + 1)) → (T (not (isLe o)) → sq P (2 * q + 1) < D) → (T (isEq o) → D ≡ sq P (2 * q + 1)) → HalfStepAround P D (nearest q o)
+  unfolding HalfStepAround
+  half-step-around Ordering·lt a b e = (le-trans (sq-le P (2 * q - 1) (2 * q) (omega arith)) lo, a tt)
+  half-step-around Ordering·eq a b e =
       let h = e tt in (
         le-trans (sq-le P (2 * (q + q % 2) - 1) (2 * q + 1) (omega arith)) (le-of-eq (sym h)),
         le-trans (le-of-eq h) (sq-le P (2 * q + 1) (2 * (q + q % 2) + 1) (omega arith)),
       )
-  ends Ordering·gt a b e = (
+  half-step-around Ordering·gt a b e = (
     le-trans (sq-le P (2 * suc q - 1) (2 * q + 1) (omega arith)) (le-of-lt (b tt)),
     le-trans (le-of-lt hi) (sq-le P (2 * q + 2) (2 * suc q + 1) (omega arith)),
   )
 
--- ---- the root's leading digits, q, and how many are dropped, k
+-- ---- the root's whole part, the leading digits of it that are kept, how many are dropped, and how √n compares with the number halfway
 
 module _ (n : ℕ) where
-  s : ℕ
-  s = isqrt n
+  wholeRoot : ℕ
+  wholeRoot = isqrt n
 
-  k : ℕ
-  unfolding s
-  k = size s - 53
+  dropped : ℕ
+  unfolding wholeRoot
+  dropped = size wholeRoot - 53
 
-  q : ℕ
-  unfolding k s
-  q = s / 2 ^ k
+  kept : ℕ
+  unfolding dropped wholeRoot
+  kept = wholeRoot / 2 ^ dropped
 
-  o : Ordering
-  unfolding q k s
-  o = compare (4 * n) (sq (2 ^ k) (2 * q + 1))
+  comparison : Ordering
+  unfolding kept dropped wholeRoot
+  comparison = compare (4 * n) (sq (2 ^ dropped) (2 * kept + 1))
 
-  q-low : sq (2 ^ k) (2 * q) ≤ 4 * n
-  unfolding q k s
-  q-low =
-      let a : q * 2 ^ k ≤ s = div-mul-le-self s (2 ^ k) in
-      let b : q * 2 ^ k * (q * 2 ^ k) ≤ s * s = mul-le-mul a a in
+  kept-low : sq (2 ^ dropped) (2 * kept) ≤ 4 * n
+  unfolding kept dropped wholeRoot
+  kept-low =
+      let a : kept * 2 ^ dropped ≤ wholeRoot = div-mul-le-self wholeRoot (2 ^ dropped) in
+      let b : kept * 2 ^ dropped * (kept * 2 ^ dropped) ≤ wholeRoot * wholeRoot = mul-le-mul a a in
       let r = isqrt-law n .0 in
       omega arith
 
-  q-high : 4 * n < sq (2 ^ k) (2 * q + 2)
-  unfolding q k s
-  q-high =
-      let a : s < q * 2 ^ k + 2 ^ k = lt-div-mul-add (pow-pos k) in
-      let b : s + 1 ≤ (q + 1) * 2 ^ k = omega arith in
-      let d : (s + 1) * (s + 1) ≤ (q + 1) * 2 ^ k * ((q + 1) * 2 ^ k) = mul-le-mul b b in
+  kept-high : 4 * n < sq (2 ^ dropped) (2 * kept + 2)
+  unfolding kept dropped wholeRoot
+  kept-high =
+      let a : wholeRoot < kept * 2 ^ dropped + 2 ^ dropped = lt-div-mul-add (pow-pos dropped) in
+      let b : wholeRoot + 1 ≤ (kept + 1) * 2 ^ dropped = omega arith in
+      let d : (wholeRoot + 1) * (wholeRoot + 1) ≤ (kept + 1) * 2 ^ dropped * ((kept + 1) * 2 ^ dropped) = mul-le-mul b b in
       let r = isqrt-law n .1 in
       omega arith
 
-  q-finest : ((2 ^ 52 ≤ nearest q o) × (sq (2 ^ k) (2 ^ 52) ≤ n)) ⊎ (k ≡ 0)
-  unfolding o q k s
-  q-finest = go (size s - 53) refl
+  kept-finest : ((2 ^ 52 ≤ nearest kept comparison) × (sq (2 ^ dropped) (2 ^ 52) ≤ n)) ⊎ (dropped ≡ 0)
+  unfolding comparison kept dropped wholeRoot
+  kept-finest = go (size wholeRoot - 53) refl
     where
-      reached : (z : ℕ) → size s - 53 ≡ suc z → 2 ^ 52 * 2 ^ k ≤ s
-      reached z e = subst (λ (x : ℕ). x ≤ s) (pow-add 2 52 k) (size-reaches s (52 + k) (omega arith))
+      reached : (z : ℕ) → size wholeRoot - 53 ≡ suc z → 2 ^ 52 * 2 ^ dropped ≤ wholeRoot
+      reached z e = subst (λ (x : ℕ). x ≤ wholeRoot) (pow-add 2 52 dropped) (size-reaches wholeRoot (52 + dropped) (omega arith))
 
-      go : (z : ℕ) → size s - 53 ≡ z → ((2 ^ 52 ≤ nearest q o) × (sq (2 ^ k) (2 ^ 52) ≤ n)) ⊎ (k ≡ 0)
+      go : (z : ℕ) → size wholeRoot - 53 ≡ z → ((2 ^ 52 ≤ nearest kept comparison) × (sq (2 ^ dropped) (2 ^ 52) ≤ n)) ⊎ (dropped ≡ 0)
       go zero e = inr e
       go (suc z) e =
           let r = reached z e in
-          inl (le-trans (le-div-iff-mul-le (pow-pos k) .1 r) (nearest-ge q o), le-trans (mul-le-mul r r) (isqrt-law n .0))
+          inl (le-trans (le-div-iff-mul-le (pow-pos dropped) .1 r) (nearest-ge kept comparison), le-trans (mul-le-mul r r) (isqrt-law n .0))
 
 -- the root of n is c * 2 ^ k units
-pub rootOf-rounded : (n : ℕ) → (c : ℕ) × (k : ℕ) × (rootOf n ≡ units binary64 false c k) × Rounded n c k
-unfolding rootOf o q k s Ends
+pub rootOf-rounded : (n : ℕ) → (c : ℕ) × (k : ℕ) × (rootOf n ≡ units binary64 false c k) × RoundedRoot n c k
+unfolding rootOf comparison kept dropped wholeRoot HalfStepAround
 rootOf-rounded n =
-    let b = sq (2 ^ k n) (2 * q n + 1) in
-    let e = ends (2 ^ k n) (4 * n) (q n) (q-low n) (q-high n) (o n) (leb→le (4 * n) b) (nleb→lt (4 * n) b) (eqb→eq (4 * n) b) in
-    (nearest (q n) (o n), k n, refl, record { low = e .0; high = e .1; digits = le-trans (nearest-le (q n) (o n)) (kept-lt 53 (s n)); finest = q-finest n })
+    let b = sq (2 ^ dropped n) (2 * kept n + 1) in
+    let e = half-step-around (2 ^ dropped n) (4 * n) (kept n) (kept-low n) (kept-high n) (comparison n) (leb→le (4 * n) b) (nleb→lt (4 * n) b) (eqb→eq (4 * n) b) in
+    (nearest (kept n) (comparison n), dropped n, refl, record { low = e .0; high = e .1; at-most-53-digits = le-trans (nearest-le (kept n) (comparison n)) (kept-lt 53 (wholeRoot n)); finest = kept-finest n })
 
--- ---- every other number of 53 digits, y = p * 2 ^ j, is at least a step away, or √n is no less than c * 2 ^ k
+-- ---- every other number of 53 digits, `other` = p * 2 ^ j, is at least a step away, or √n is no less than c * 2 ^ k
 
-module _ (n c k p j : ℕ) (r : Rounded n c k) (p-lt : p < 2 ^ 53) where
-  abbrev y : ℕ
-  y = p * 2 ^ j
+module _ (n c k p j : ℕ) (r : RoundedRoot n c k) (p-lt : p < 2 ^ 53) where
+  abbrev other : ℕ
+  other = p * 2 ^ j
 
   -- a multiple of 2 ^ k
-  split : k ≤ j → y ≡ p * 2 ^ (j - k) * 2 ^ k
+  split : k ≤ j → other ≡ p * 2 ^ (j - k) * 2 ^ k
   split h = let e : j ≡ j - k + k = omega arith in ap (λ (z : ℕ). p * 2 ^ z) e ∙ ap (λ (z : ℕ). p * z) (pow-add 2 (j - k) k) ∙ sym (mul-assoc p (2 ^ (j - k)) (2 ^ k))
 
   -- or below all that have 53 digits
-  under : j < k → y < 2 ^ 52 * 2 ^ k
+  under : j < k → other < 2 ^ 52 * 2 ^ k
   under h = lt-of-lt-of-le (shl-lt 53 j p-lt) (le-trans (pow-mono {i = 53 + j} {j = 52 + k} (omega arith)) (le-of-eq (pow-add 2 52 k)))
 
   step-up : (x : ℕ) → c * 2 ^ k < x * 2 ^ k → c * 2 ^ k + 2 ^ k ≤ x * 2 ^ k
@@ -137,55 +136,55 @@ module _ (n c k p j : ℕ) (r : Rounded n c k) (p-lt : p < 2 ^ 53) where
       let g : (x + 1) * 2 ^ k ≤ c * 2 ^ k = mul-le-mul-right (2 ^ k) (omega arith) in
       omega arith
 
-  pub above-step : c * 2 ^ k < y → c * 2 ^ k + 2 ^ k ≤ y
+  pub above-step : c * 2 ^ k < other → c * 2 ^ k + 2 ^ k ≤ other
   above-step h = either (decLe k j)
     where
-      coarse : j < k → ((2 ^ 52 ≤ c) × (sq (2 ^ k) (2 ^ 52) ≤ n)) ⊎ (k ≡ 0) → ⊥
-      coarse l (inl f) = let g : 2 ^ 52 * 2 ^ k ≤ c * 2 ^ k = mul-le-mul-right (2 ^ k) (f .0) in let u = under l in omega arith
-      coarse l (inr e) = omega arith
+      coarser : j < k → ((2 ^ 52 ≤ c) × (sq (2 ^ k) (2 ^ 52) ≤ n)) ⊎ (k ≡ 0) → ⊥
+      coarser l (inl f) = let g : 2 ^ 52 * 2 ^ k ≤ c * 2 ^ k = mul-le-mul-right (2 ^ k) (f .0) in let u = under l in omega arith
+      coarser l (inr e) = omega arith
 
-      either : Dec (k ≤ j) → c * 2 ^ k + 2 ^ k ≤ y
+      either : Dec (k ≤ j) → c * 2 ^ k + 2 ^ k ≤ other
       either (yes l) = let e = split l in le-trans (step-up (p * 2 ^ (j - k)) (lt-of-lt-of-le h (le-of-eq e))) (le-of-eq (sym e))
-      either (no g) = absurd (coarse (lt-of-not-le g) (r .finest))
+      either (no g) = absurd (coarser (lt-of-not-le g) (r .finest))
 
-  pub below-step : y < c * 2 ^ k → (y + 2 ^ k ≤ c * 2 ^ k) ⊎ (c * 2 ^ k * (c * 2 ^ k) ≤ n)
+  pub below-step : other < c * 2 ^ k → (other + 2 ^ k ≤ c * 2 ^ k) ⊎ (c * 2 ^ k * (c * 2 ^ k) ≤ n)
   below-step h = either (decLe k j)
     where
-      more : j < k → 2 ^ 52 < c → y + 2 ^ k ≤ c * 2 ^ k
-      more l g = let f : (2 ^ 52 + 1) * 2 ^ k ≤ c * 2 ^ k = mul-le-mul-right (2 ^ k) (omega arith) in let u = under l in omega arith
+      a-step-below : j < k → 2 ^ 52 < c → other + 2 ^ k ≤ c * 2 ^ k
+      a-step-below l g = let f : (2 ^ 52 + 1) * 2 ^ k ≤ c * 2 ^ k = mul-le-mul-right (2 ^ k) (omega arith) in let u = under l in omega arith
 
-      least : c ≡ 2 ^ 52 → sq (2 ^ k) (2 ^ 52) ≤ n → c * 2 ^ k * (c * 2 ^ k) ≤ n
-      least e g = subst (λ (x : ℕ). x * 2 ^ k * (x * 2 ^ k) ≤ n) (sym e) g
+      no-less-squared : c ≡ 2 ^ 52 → sq (2 ^ k) (2 ^ 52) ≤ n → c * 2 ^ k * (c * 2 ^ k) ≤ n
+      no-less-squared e g = subst (λ (x : ℕ). x * 2 ^ k * (x * 2 ^ k) ≤ n) (sym e) g
 
-      by : j < k → 2 ^ 52 ≤ c → sq (2 ^ k) (2 ^ 52) ≤ n → Dec (c ≤ 2 ^ 52) → (y + 2 ^ k ≤ c * 2 ^ k) ⊎ (c * 2 ^ k * (c * 2 ^ k) ≤ n)
-      by l a b (yes g) = inr (least (omega arith) b)
-      by l a b (no g) = inl (more l (lt-of-not-le g))
+      by-digits : j < k → 2 ^ 52 ≤ c → sq (2 ^ k) (2 ^ 52) ≤ n → Dec (c ≤ 2 ^ 52) → (other + 2 ^ k ≤ c * 2 ^ k) ⊎ (c * 2 ^ k * (c * 2 ^ k) ≤ n)
+      by-digits l a b (yes g) = inr (no-less-squared (omega arith) b)
+      by-digits l a b (no g) = inl (a-step-below l (lt-of-not-le g))
 
-      coarse : j < k → ((2 ^ 52 ≤ c) × (sq (2 ^ k) (2 ^ 52) ≤ n)) ⊎ (k ≡ 0) → (y + 2 ^ k ≤ c * 2 ^ k) ⊎ (c * 2 ^ k * (c * 2 ^ k) ≤ n)
-      coarse l (inl f) = by l (f .0) (f .1) (decLe c (2 ^ 52))
-      coarse l (inr e) = absurd (omega arith)
+      coarser : j < k → ((2 ^ 52 ≤ c) × (sq (2 ^ k) (2 ^ 52) ≤ n)) ⊎ (k ≡ 0) → (other + 2 ^ k ≤ c * 2 ^ k) ⊎ (c * 2 ^ k * (c * 2 ^ k) ≤ n)
+      coarser l (inl f) = by-digits l (f .0) (f .1) (decLe c (2 ^ 52))
+      coarser l (inr e) = absurd (omega arith)
 
-      either : Dec (k ≤ j) → (y + 2 ^ k ≤ c * 2 ^ k) ⊎ (c * 2 ^ k * (c * 2 ^ k) ≤ n)
+      either : Dec (k ≤ j) → (other + 2 ^ k ≤ c * 2 ^ k) ⊎ (c * 2 ^ k * (c * 2 ^ k) ≤ n)
       either (yes l) = let e = split l in inl (subst (λ (x : ℕ). x + 2 ^ k ≤ c * 2 ^ k) (sym e) (step-down (p * 2 ^ (j - k)) (lt-of-le-of-lt (le-of-eq (sym e)) h)))
-      either (no g) = coarse (lt-of-not-le g) (r .finest)
+      either (no g) = coarser (lt-of-not-le g) (r .finest)
 
--- ---- so √n is on c * 2 ^ k's side of the number halfway to y
+-- ---- so √n is on c * 2 ^ k's side of the number halfway to p * 2 ^ j
 
-module _ (n c k : ℕ) (r : Rounded n c k) where
-  abbrev R : ℕ
-  R = c * 2 ^ k
+module _ (n c k : ℕ) (r : RoundedRoot n c k) where
+  abbrev rounded : ℕ
+  rounded = c * 2 ^ k
 
-  pub nearest-above : (p j : ℕ) → p < 2 ^ 53 → R < p * 2 ^ j → sq (2 ^ k) (2 * c + 1) ≤ (R + p * 2 ^ j) * (R + p * 2 ^ j)
+  pub nearest-above : (p j : ℕ) → p < 2 ^ 53 → rounded < p * 2 ^ j → sq (2 ^ k) (2 * c + 1) ≤ (rounded + p * 2 ^ j) * (rounded + p * 2 ^ j)
   nearest-above p j l h =
       let g = above-step n c k p j r l h in
-      let f : (2 * c + 1) * 2 ^ k ≤ R + p * 2 ^ j = omega arith in
+      let f : (2 * c + 1) * 2 ^ k ≤ rounded + p * 2 ^ j = omega arith in
       mul-le-mul f f
 
-  pub nearest-below : (p j : ℕ) → p < 2 ^ 53 → p * 2 ^ j < R → ((R + p * 2 ^ j) * (R + p * 2 ^ j) ≤ sq (2 ^ k) (2 * c - 1)) ⊎ ((R + p * 2 ^ j) * (R + p * 2 ^ j) < 4 * n)
+  pub nearest-below : (p j : ℕ) → p < 2 ^ 53 → p * 2 ^ j < rounded → ((rounded + p * 2 ^ j) * (rounded + p * 2 ^ j) ≤ sq (2 ^ k) (2 * c - 1)) ⊎ ((rounded + p * 2 ^ j) * (rounded + p * 2 ^ j) < 4 * n)
   nearest-below p j l h = ⊎-elim (λ g. inl (low-step g)) (λ g. inr (less g)) (below-step n c k p j r l h)
     where
-      low-step : p * 2 ^ j + 2 ^ k ≤ R → (R + p * 2 ^ j) * (R + p * 2 ^ j) ≤ sq (2 ^ k) (2 * c - 1)
-      low-step g = let f : R + p * 2 ^ j ≤ (2 * c - 1) * 2 ^ k = halves c (2 ^ k) (p * 2 ^ j) g in mul-le-mul f f
+      low-step : p * 2 ^ j + 2 ^ k ≤ rounded → (rounded + p * 2 ^ j) * (rounded + p * 2 ^ j) ≤ sq (2 ^ k) (2 * c - 1)
+      low-step g = let f : rounded + p * 2 ^ j ≤ (2 * c - 1) * 2 ^ k = halves c (2 ^ k) (p * 2 ^ j) g in mul-le-mul f f
         where
           halves : (c P z : ℕ) → z + P ≤ c * P → c * P + z ≤ (2 * c - 1) * P
           halves zero P z g = omega arith
@@ -194,40 +193,40 @@ module _ (n c k : ℕ) (r : Rounded n c k) where
               let b : (2 * suc c - 1) * P ≡ (2 * c + 1) * P = ap (λ (x : ℕ). x * P) (omega arith) in
               omega arith
 
-      less : R * R ≤ n → (R + p * 2 ^ j) * (R + p * 2 ^ j) < 4 * n
+      less : rounded * rounded ≤ n → (rounded + p * 2 ^ j) * (rounded + p * 2 ^ j) < 4 * n
       less g =
           let z = p * 2 ^ j in
-          let a : z * R ≤ R * R = mul-le-mul-right R (le-of-lt h) in
-          let b : z * z ≤ z * R = mul-le-mul-left z (le-of-lt h) in
-          let d : z * R < R * R = mul-lt-mul-of-pos-right h (omega arith) in
+          let a : z * rounded ≤ rounded * rounded = mul-le-mul-right rounded (le-of-lt h) in
+          let b : z * z ≤ z * rounded = mul-le-mul-left z (le-of-lt h) in
+          let d : z * rounded < rounded * rounded = mul-lt-mul-of-pos-right h (omega arith) in
           omega arith
 
   -- a number of 53 digits that is at most √n is at most the root, and one that is at least √n is at least the root
-  pub root-ge : (p j : ℕ) → p < 2 ^ 53 → p * 2 ^ j * (p * 2 ^ j) ≤ n → p * 2 ^ j ≤ R
-  root-ge p j l h = either (decLe (p * 2 ^ j) R)
+  pub root-ge : (p j : ℕ) → p < 2 ^ 53 → p * 2 ^ j * (p * 2 ^ j) ≤ n → p * 2 ^ j ≤ rounded
+  root-ge p j l h = either (decLe (p * 2 ^ j) rounded)
     where
-      no-more : R < p * 2 ^ j → ⊥
+      no-more : rounded < p * 2 ^ j → ⊥
       no-more g =
           let z = p * 2 ^ j in
           let a = le-trans (r .high) (nearest-above p j l g) in
-          let b : z * R < z * z = mul-lt-mul-of-pos-left g (omega arith) in
-          let d : R * R ≤ z * R = mul-le-mul-right R (le-of-lt g) in
+          let b : z * rounded < z * z = mul-lt-mul-of-pos-left g (omega arith) in
+          let d : rounded * rounded ≤ z * rounded = mul-le-mul-right rounded (le-of-lt g) in
           omega arith
 
-      either : Dec (p * 2 ^ j ≤ R) → p * 2 ^ j ≤ R
+      either : Dec (p * 2 ^ j ≤ rounded) → p * 2 ^ j ≤ rounded
       either (yes g) = g
       either (no g) = absurd (no-more (lt-of-not-le g))
 
-  pub root-le : (p j : ℕ) → p < 2 ^ 53 → n ≤ p * 2 ^ j * (p * 2 ^ j) → R ≤ p * 2 ^ j
-  root-le p j l h = either (decLe R (p * 2 ^ j))
+  pub root-le : (p j : ℕ) → p < 2 ^ 53 → n ≤ p * 2 ^ j * (p * 2 ^ j) → rounded ≤ p * 2 ^ j
+  root-le p j l h = either (decLe rounded (p * 2 ^ j))
     where
-      no-less : p * 2 ^ j < R → ⊥
+      no-less : p * 2 ^ j < rounded → ⊥
       no-less g =
           let z = p * 2 ^ j in
-          let d : z * R < R * R = mul-lt-mul-of-pos-right g (omega arith) in
-          let b : z * z ≤ z * R = mul-le-mul-left z (le-of-lt g) in
+          let d : z * rounded < rounded * rounded = mul-lt-mul-of-pos-right g (omega arith) in
+          let b : z * z ≤ z * rounded = mul-le-mul-left z (le-of-lt g) in
           ⊎-elim (λ a. let u = le-trans a (r .low) in omega arith) (λ a. omega arith) (nearest-below p j l g)
 
-      either : Dec (R ≤ p * 2 ^ j) → R ≤ p * 2 ^ j
+      either : Dec (rounded ≤ p * 2 ^ j) → rounded ≤ p * 2 ^ j
       either (yes g) = g
       either (no g) = absurd (no-less (lt-of-not-le g))

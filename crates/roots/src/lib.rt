@@ -4,7 +4,7 @@ ghost use mathlib.Core.Bool.{true};
 ghost use Prim.Native.Nat.{ℕ, _+_, _*_, _^_, _≤_, _<_};
 ghost use lib.Ieee.{binary64, ofBits};
 ghost use Rattle.roots.specs.Root.{Root};
-ghost use Rattle.roots.specs.NearestWhole.{Near, scaled, RootFrom};
+ghost use Rattle.roots.specs.NearestWhole.{Near, scaledSignificand, RootFrom};
 
 // The root of a * 2^52, rounded to a whole number: digit by digit, from the highest. w holds the digits
 // of a that are still to come; q is the root so far and r the rest.
@@ -94,7 +94,7 @@ fn tried(n: u64, r: u64) -> u64
 // The significand of the root, as a whole number of 53 digits. It turns on the digits of b and on whether
 // b's exponent is odd.
 fn significand(b: u64) -> u64
-    ensures { λ c. ⌜ Near (scaled b * 2 ^ 42) c ⌝ }
+    ensures { λ c. ⌜ Near (scaledSignificand b * 2 ^ 42) c ⌝ }
 {
     let n = (((b & 0xf_ffff_ffff_ffff) << 11) + 0x8000_0000_0000_0000) >> ((b >> 52) & 1);
     let c = tried(n, start_of(b));
@@ -114,7 +114,7 @@ struct Normal {
 // A number below the normal ones is shifted until it has 53 digits.
 fn normalised(b: u64) -> Normal
     requires { ⌜ (0 < b) × (b < 2047 * 2 ^ 52) ⌝ }
-    ensures { λ n. ⌜ ((c : ℕ) → Near (scaled (n .pattern) * 2 ^ 42) c → RootFrom b (n .twice) c) ⌝ }
+    ensures { λ n. ⌜ ((c : ℕ) → Near (scaledSignificand (n .pattern) * 2 ^ 42) c → RootFrom b (n .twice) c) ⌝ }
 {
     if b < 0x10_0000_0000_0000 {
         let z = (u64::leading_zeros(b) as u64) - 11;

@@ -1,5 +1,5 @@
--- Demand 3 as plain statements: what it is that no cause of refusal holds, what an accepted sheet is, and what a written one is. Definitions only; `Demand3` shows
--- that the writer and the checker answer so exactly where they hold.
+-- What it is that no cause of refusal holds, what an accepted sheet is, and what a written one is, as plain statements. Definitions only; `Demand3` says that the
+-- writer and the checker answer so exactly where they hold.
 use mathlib.Core.Path.{_≡_}
 use mathlib.Core.Bool.{true, false}
 use mathlib.Core.List.{List, [], _∷_, _++_}
@@ -22,7 +22,7 @@ use Rattle.mesh.specs.Surface as surface
 use Rattle.mesh.specs.Accepted.{Closed}
 use Rattle.prism.specs.Prism.{minSide}
 use Rattle.sheet_layout.specs.LittleEndian.{pack, bits}
-use Rattle.sheet_rows.specs.Kinds.{meshKind, prismKind, maxStations}
+use Rattle.sheet_rows.specs.Kinds.{isMesh, isPrism, maxStations}
 use Rattle.sheet_rows.specs.Row.{rowNumbers}
 use Rattle.sheet_rows.specs.declared.Row.{Row}
 use Rattle.sheet.specs.Input.{SheetInput, vertexCount, faceCount, stationCount, rowAt}
@@ -51,13 +51,17 @@ pub record FiniteRow (s : SheetInput) (i : ℕ) : Type 0 where
 abbrev pub SideInLimits : Float → Float → Type 0
 SideInLimits lo hi = le minSide (hi ⊖ lo) ≡ true
 
+-- a kind that document 01 has: a mesh, or a prism of two vertices, min and max, and no faces
+abbrev pub KindKnown : SheetInput → Type 0
+KindKnown s = (isMesh (s .kind) ≡ true) ⊎ ((isPrism (s .kind) ≡ true) × ((vertexCount s ≡ 2) × (faceCount s ≡ 0)))
+
 -- document 01's causes of the writer's order, each denied by itself; w and o are the lengths of work and out
 pub record NoCause (s : SheetInput) (w o : ℕ) : Type 0 where
   -- 1
   pub coordinates : length (s .vertices) % 3 ≡ 0
   pub corners : length (s .faces) % 3 ≡ 0
   pub triples : length (s .stations) % 3 ≡ 0
-  pub known : (s .kind ≡ meshKind) ⊎ ((s .kind ≡ prismKind) × ((vertexCount s ≡ 2) × (faceCount s ≡ 0)))
+  pub known : KindKnown s
   -- 2
   pub vertices : vertexCount s ≤ maxVertices
   pub faces : faceCount s ≤ maxFaces
@@ -76,12 +80,12 @@ pub record NoCause (s : SheetInput) (w o : ℕ) : Type 0 where
   pub once : (a b : ℕ) → occurrences (s .faces) a b ≤ 1
   pub back : (a b : ℕ) → 1 ≤ occurrences (s .faces) a b → 1 ≤ occurrences (s .faces) b a
   -- 7 and 8
-  pub normals : s .kind ≡ meshKind → (k : ℕ) → k < faceCount s → surface.isZero (surface.normal (s .vertices) (s .faces) k) ≡ false
-  pub positive : s .kind ≡ meshKind → lt 0·0 (volume s) ≡ true
+  pub normals : isMesh (s .kind) ≡ true → (k : ℕ) → k < faceCount s → surface.isZero (surface.normal (s .vertices) (s .faces) k) ≡ false
+  pub positive : isMesh (s .kind) ≡ true → lt 0·0 (volume s) ≡ true
   -- 9
-  pub side-x : s .kind ≡ prismKind → SideInLimits (surface.vertex (s .vertices) 0 .x) (surface.vertex (s .vertices) 1 .x)
-  pub side-y : s .kind ≡ prismKind → SideInLimits (surface.vertex (s .vertices) 0 .y) (surface.vertex (s .vertices) 1 .y)
-  pub side-z : s .kind ≡ prismKind → SideInLimits (surface.vertex (s .vertices) 0 .z) (surface.vertex (s .vertices) 1 .z)
+  pub side-x : isPrism (s .kind) ≡ true → SideInLimits (surface.vertex (s .vertices) 0 .x) (surface.vertex (s .vertices) 1 .x)
+  pub side-y : isPrism (s .kind) ≡ true → SideInLimits (surface.vertex (s .vertices) 0 .y) (surface.vertex (s .vertices) 1 .y)
+  pub side-z : isPrism (s .kind) ≡ true → SideInLimits (surface.vertex (s .vertices) 0 .z) (surface.vertex (s .vertices) 1 .z)
   -- 10, 11 and 13
   pub rows : (i : ℕ) → i < stationCount s → FiniteRow s i
 

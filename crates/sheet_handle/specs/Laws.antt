@@ -1,4 +1,4 @@
--- The handle, moved row after row, gives the rows of the sheet, whatever the bytes. Assumes nothing.
+-- The handle, moved row after row, gives the rows of the sheet, whatever the bytes: `row-after-row`, at the end. Assumes nothing.
 use mathlib.Core.Path.{_≡_, refl, sym, ap, _∙_}
 use mathlib.Core.List.{List, []}
 use mathlib.Core.Logic.{⊎-elim}

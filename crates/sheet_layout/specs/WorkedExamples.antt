@@ -1,4 +1,4 @@
--- Worked examples of the definitions.
+-- Worked examples of the definitions, each a statement by itself. Assumes nothing.
 use mathlib.Core.Path.{_≡_, refl}
 use mathlib.Core.List.{[], _∷_}
 use lib.Ieee.{ofBits, toBits}

@@ -15,7 +15,7 @@ use Rattle.sheet_rows.proofs.Counts.{counts-each}
 use Rattle.sheet.specs.Bytes.{trailerLength}
 use Rattle.sheet_rows.specs.Kinds.{knownKind, withinCounts}
 use Rattle.sheet.specs.Writer.{malformed}
-use Rattle.sheet.specs.Reading.{none-length}
+use Rattle.sheet_laws.specs.Reading.{none-length}
 use Rattle.sheet.specs.Checker.{kindIn, verticesIn, facesIn, stationsIn, pointerIn, pointerFor, rowsStart, rowStart, rowLength, parse, wrongLength, openingCause, rowsPart, rowPart}
 use Rattle.sheet_readers.specs.Opened.{Opened}
 use Rattle.sheet_readers.proofs.Parsed.{malformed-parsed, many-parsed}

@@ -9,7 +9,7 @@ use Rattle.refusals.specs.declared.Refusal.the-variants.{Malformed, TooMany}
 use Rattle.sheet_layout.proofs.Lists.{unpack-length}
 use Rattle.sheet_rows.specs.Kinds.{knownKind, withinCounts}
 use Rattle.sheet.specs.Writer.{malformed, tooMany}
-use Rattle.sheet.specs.Reading.{kind-read, faces-length}
+use Rattle.sheet_laws.specs.Reading.{kind-read, faces-length}
 use Rattle.sheet.specs.Checker.{kindIn, verticesIn, facesIn, stationsIn, parse}
 
 third : (n : ℕ) → 3 * n / 3 ≡ n

@@ -1,2 +1,3 @@
--- Laws of the counts, for the crates above.
+-- Laws of the kinds and of the counts, for the crates above.
+pub mod KindLaws
 pub mod Counts

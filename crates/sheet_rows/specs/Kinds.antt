@@ -17,20 +17,32 @@ prismKind = 2
 unfoldable pub isMesh : ℕ → Bool
 isMesh kind = eqb kind meshKind
 
+unfoldable pub isPrism : ℕ → Bool
+isPrism kind = eqb kind prismKind
+
 -- of v vertices and f faces: a mesh; or a prism, with two vertices, min and max, and no faces
 unfoldable pub knownKind : ℕ → ℕ → ℕ → Bool
-knownKind kind v f = eqb kind meshKind || (eqb kind prismKind && (eqb v 2 && eqb f 0))
+knownKind kind v f = isMesh kind || (isPrism kind && (eqb v 2 && eqb f 0))
 
 -- ---- what a kind decides
 
+-- V, three gradient parts, three of the magnetic field, and the total field's anomaly
+abbrev pub plainWidth : ℕ
+plainWidth = 8
+
 -- how many numbers a row has, each of 8 bytes
 abbrev pub rowWidth : ℕ → ℕ
-rowWidth kind = 8
+rowWidth kind = plainWidth
 
-abbrev pub axisRule : ℕ → AxisRule
+-- no kind has more
+abbrev pub maxWidth : ℕ
+maxWidth = plainWidth
+
+-- of equal sides, the one that a prism is halved across
+unfoldable pub axisRule : ℕ → AxisRule
 axisRule kind = LastOfEquals
 
-abbrev pub magneticConstant : ℕ → Float
+unfoldable pub magneticConstant : ℕ → Float
 magneticConstant kind = μ₀/4π
 
 -- ---- the counts

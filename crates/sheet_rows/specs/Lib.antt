@@ -1,5 +1,5 @@
 -- The row of a station.
 pub mod Kinds
 pub mod Row
-pub mod Known
+pub mod BodyWithCenter
 pub mod RowRefusals

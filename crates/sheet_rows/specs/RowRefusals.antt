@@ -1,4 +1,4 @@
--- A row is refused by 10 or 11 with the station's number, and by no other. Assumes nothing.
+-- A row is refused by 10 or 11 with the station's number, and by no other: `rowAt-refused`, at the end. Assumes nothing.
 use mathlib.Core.Path.{_≡_, ap}
 use mathlib.Core.Bool.{Bool, true, false, cond}
 use mathlib.Core.List.{List}

@@ -7,15 +7,14 @@ ghost use lib.ListN.{length};
 ghost use Rattle.newtonian.specs.Field as newtonian;
 ghost use Rattle.mesh_orders.specs.Order.{orderList};
 ghost use Rattle.mesh.specs.Surface.{Body};
-ghost use Rattle.polyhedron_edge_face_sums.specs.Logarithms.{Mated};
+ghost use Rattle.polyhedron_edge_face_sums.specs.KeptLogarithms.{Mated};
 ghost use Rattle.sheet_rows.specs.Kinds.{isMesh};
 ghost use Rattle.sheet_rows.specs.Row.{fieldAt, rowFrom, rowAt, rowNumbers, allFinite, isFiniteRow, rowCause, answerOf};
-ghost use Rattle.sheet_rows.specs.Known.{CenterOf, Known};
-use crate::kinds::ROW_NUMBERS;
+ghost use Rattle.sheet_rows.specs.BodyWithCenter.{CenterOf, BodyWithCenter};
+use crate::kinds::PLAIN_WIDTH;
 use newtonian::Field;
 use newtonian::Newtonian;
 use newtonian::Vector;
-use prism_pieces::AxisRule;
 use refusals::Cause;
 use refusals::Refusal;
 
@@ -71,7 +70,7 @@ fn field_at(
     mates: &[u32],
     logs: &mut [f64],
 ) -> Field
-    requires { ⌜ Known kind c (now verts) (now faces) × Mated (now faces) (now mates) (now logs) ⌝ }
+    requires { ⌜ BodyWithCenter kind c (now verts) (now faces) × Mated (now faces) (now mates) (now logs) ⌝ }
     ensures { λ r. ⌜ newtonian.answerOf r ≡ fieldAt kind i p (now (verts .entry)) (now (faces .entry)) ⌝ }
     ensures { λ _. ⌜ length (now (logs .exit)) ≡ length (now (logs .entry)) ⌝ }
 {
@@ -80,14 +79,14 @@ fn field_at(
     }
     let lo = mesh::surface::vertex(verts, 0);
     let hi = mesh::surface::vertex(verts, 1);
-    prism::prism_at(AxisRule::LastOfEquals, i, p, lo, hi)
+    prism::prism_at(kinds::axis_rule(kind), i, p, lo, hi)
 }
 
 fn row_from(kind: u32, magnetisation: Vector, ambient: Vector, field: Newtonian) -> Row
     ensures { λ r. ⌜ r ≡ rowFrom kind magnetisation ambient field ⌝ }
 {
     let hessian = field.hessian;
-    let anomaly = anomaly::body_of(anomaly::C_M, hessian, magnetisation);
+    let anomaly = anomaly::body_of(kinds::magnetic_constant(kind), hessian, magnetisation);
     Row {
         field,
         anomaly,
@@ -109,7 +108,7 @@ pub fn row_at(
     mates: &[u32],
     logs: &mut [f64],
 ) -> RowAnswer
-    requires { ⌜ Known kind c (now verts) (now faces) × Mated (now faces) (now mates) (now logs) ⌝ }
+    requires { ⌜ BodyWithCenter kind c (now verts) (now faces) × Mated (now faces) (now mates) (now logs) ⌝ }
     ensures { λ r. ⌜ answerOf r ≡ rowAt kind magnetisation ambient i p (now (verts .entry)) (now (faces .entry)) ⌝ }
     ensures { λ _. ⌜ length (now (logs .exit)) ≡ length (now (logs .entry)) ⌝ }
 {
@@ -120,7 +119,7 @@ pub fn row_at(
 }
 
 // The numbers that the sheet holds of a row.
-pub fn row_numbers(kind: u32, row: Row) -> [f64; ROW_NUMBERS]
+pub fn row_numbers(kind: u32, row: Row) -> [f64; PLAIN_WIDTH]
     ensures { λ r. ⌜ r ≡ rowNumbers kind row ⌝ }
 {
     let g = row.field.gradient;

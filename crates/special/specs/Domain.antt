@@ -3,6 +3,7 @@ use mathlib.Core.Bool.{Bool, not, _&&_, _||_, cond}
 use lib.Ieee.{Float, lt, le, eq}
 use lib.Ieee.Scale.{finite}
 use Rattle.doubles.specs.Constants.{0·0}
+use Rattle.refusals.specs.Causes.{unless, causeOr}
 use Rattle.refusals.specs.declared.Refusal.the-variants.{OutsideDomain}
 use Rattle.carlson.specs.declared.Integral.{Integral}
 use Rattle.carlson.specs.declared.Integral.the-variants.{Refused}
@@ -20,10 +21,10 @@ unfoldable pub inDomain : Float → Float → Float → Bool
 inDomain x y z = finiteNotBelowZero x && finiteNotBelowZero y && finiteNotBelowZero z && not (moreThanOneZero x y z)
 
 unfoldable pub carlsonRf : Float → Float → Float → Integral
-carlsonRf x y z = cond (inDomain x y z) (rf x y z) (Refused OutsideDomain)
+carlsonRf x y z = causeOr Refused (unless (inDomain x y z) OutsideDomain) (rf x y z)
 
 unfoldable pub carlsonRd : Float → Float → Float → Integral
-carlsonRd x y z = cond (inDomain x y z && lt 0·0 z) (rd x y z) (Refused OutsideDomain)
+carlsonRd x y z = causeOr Refused (unless (inDomain x y z && lt 0·0 z) OutsideDomain) (rd x y z)
 
 unfoldable pub carlsonRj : Float → Float → Float → Float → Integral
-carlsonRj x y z p = cond (inDomain x y z && finite p) (rj x y z p) (Refused OutsideDomain)
+carlsonRj x y z p = causeOr Refused (unless (inDomain x y z && finite p) OutsideDomain) (rj x y z p)

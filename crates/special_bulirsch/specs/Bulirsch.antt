@@ -1,6 +1,6 @@
--- Bulirsch's general complete elliptic integral cel(k_c, p, a, b) = ∫ (a cos²φ + b sin²φ) / ((cos²φ + p sin²φ) √(cos²φ + k_c² sin²φ)) dφ over φ from 0 to π/2, for p > 0
--- (R. Bulirsch, Numer. Math. 13, 305 (1969)), with the roundings in the order of the Rust. The public call, which asks for finite
--- arguments first, stands in the crate `rings`. Definitions only.
+-- Bulirsch's general complete elliptic integral cel(k_c, p, a, b) = ∫ (a cos²φ + b sin²φ) / ((cos²φ + p sin²φ) √(cos²φ + k_c² sin²φ)) dφ over φ from 0 to π/2, for p
+-- > 0 (R. Bulirsch, Numer. Math. 13, 305 (1969)), with the roundings in the order of the Rust. The public call, which asks for finite arguments first, stands in the
+-- crate `rings`. Definitions only.
 use mathlib.Core.Bool.{Bool, not}
 use Prim.Native.Nat.{ℕ}
 use lib.Ieee.{Float, le}
@@ -34,7 +34,8 @@ firstBulirsch kc p a b = record { kc = abs kc; e = abs kc; m = 1·0; previous = 
 unfoldable pub celEnd : Bulirsch → Float
 celEnd s = π/2 ⊗ (s .a ⊗ s .m ⊕ s .b) ⊘ (s .m ⊗ (s .m ⊕ s .p))
 
--- the Rust's loop makes the first half, tests, and makes the second half, at most 64 times: a first half, and then at most 63 times the second and the first (`CelAsWritten`)
+-- the Rust's loop makes the first half, tests, and makes the second half, at most 64 times: a first half, and then at most 63 times the second and the first
+-- (special_laws, `CelAsWritten`)
 abbrev pub maxTurns : ℕ
 maxTurns = 63
 

@@ -1,4 +1,5 @@
--- R_J for p below zero hands R_J a p' that is above zero, or an infinity or a NaN: so the inner call goes to the loop, as `rjSorted` says. Assumes nothing.
+-- For `InnerRj`. States: `p'-above`: R_J for p below zero hands R_J a p' that is neither zero nor below it: it is above zero, or an infinity, or a NaN; `inner-of`:
+-- so the inner call goes to the loop, as `rjSorted` says. Before them `add-unsigned` and `sub-unsigned`: which sums and differences have no sign. Assumes nothing.
 use mathlib.Core.Path.{_≡_, refl}
 use mathlib.Core.Bool.{Bool, true, false, not, _&&_, cond}
 use Prim.Native.Nat.{ℕ, zero, suc, _+_, _-_, _*_, _^_, _≤_, _<_}
@@ -11,14 +12,14 @@ use lib.Ieee.Order.{round-mono}
 use lib.Ieee.Positive.{num, den, den-pos, positive, first-pos}
 use Rattle.doubles.specs.Rounded.{_⊕_, _⊖_, _⊗_, _⊘_}
 use Rattle.doubles.specs.Constants.{0·0}
-use Rattle.doubles.specs.Magnitude.{nonneg}
-use Rattle.doubles.proofs.Nonneg.{nonneg-of-positive, le→cross, num-pos}
+use Rattle.doubles.specs.Magnitude.{finiteUnsigned}
+use Rattle.doubles.proofs.FiniteUnsigned.{finite-unsigned-of-positive, le→cross, num-pos}
 use Rattle.doubles.proofs.Value.{round-own}
-use Rattle.doubles.proofs.Within.{positive-of-num}
+use Rattle.doubles.proofs.Between.{positive-of-num}
 use Rattle.doubles.proofs.Signs.{above-zero}
 use Rattle.special_rj.specs.Rj.{p', rj, rjAbove}
 
--- no sign: a NaN, +∞, or a number that is not negative
+-- no sign: a NaN, +∞, or finite with a clear sign bit (`finiteUnsigned`)
 abbrev pub unsigned : Float → Bool
 unsigned nan = true
 unsigned (inf s) = not s
@@ -94,7 +95,7 @@ div-unsigned f (fin false m e) (fin false n d) p q = go (eqb n 0) (eqb m 0)
     go true b = 0·∞-unsigned b
     go false b = round-unsigned f _ _
 
-pub sub-unsigned : (f : Format) (x y : Float) → T (nonneg x) → T (nonneg y) → T (le y x) → T (unsigned (sub f x y))
+pub sub-unsigned : (f : Format) (x y : Float) → T (finiteUnsigned x) → T (finiteUnsigned y) → T (le y x) → T (unsigned (sub f x y))
 unfolding sub add neg sum
 sub-unsigned f nan y p q h = absurd p
 sub-unsigned f (inf s) y p q h = absurd p
@@ -123,7 +124,7 @@ at-least y (inf true) p q h = absurd q
 at-least y (inf false) p q h = (refl, refl)
 at-least y (fin true m e) p q h = absurd q
 at-least y (fin false m e) p q h =
-    let g : num y * den (fin false m e) ≤ num (fin false m e) * den y = le→cross y (fin false m e) (nonneg-of-positive y p) tt h in
+    let g : num y * den (fin false m e) ≤ num (fin false m e) * den y = le→cross y (fin false m e) (finite-unsigned-of-positive y p) tt h in
     let k : 0 < num (fin false m e) * den y = le-trans (mul-pos (num-pos y p) (den-pos (fin false m e))) g in
     above-zero (fin false m e) (positive-of-num (fin false m e) tt (mul-pos (first-pos (num (fin false m e)) (den y) k) (den-pos nan)))
 
@@ -145,13 +146,13 @@ sum-above (fin false m e) (fin false n d) p g q =
     at-least (fin false m e) (round binary64 false a c) p (round-unsigned binary64 a c) (rw own at h)
 
 -- ---- x ≤ y ≤ z, y above zero, and q above zero (x may be -0)
-pub p'-above : (x y z q : Float) → T (positive y) → T (fits binary64 y) → T (nonneg z) → T (positive q) → T (unsigned (y ⊖ x)) → T (le y z) → Above (p' x y z q)
+pub p'-above : (x y z q : Float) → T (positive y) → T (fits binary64 y) → T (finiteUnsigned z) → T (positive q) → T (unsigned (y ⊖ x)) → T (le y z) → Above (p' x y z q)
 p'-above x y z q p g r s u v =
-    let w : T (nonneg y) = nonneg-of-positive y p in
+    let w : T (finiteUnsigned y) = finite-unsigned-of-positive y p in
     sum-above y ((z ⊖ y) ⊗ (y ⊖ x) ⊘ (y ⊕ q)) p g
-    (div-unsigned binary64 ((z ⊖ y) ⊗ (y ⊖ x)) (y ⊕ q) (mul-unsigned binary64 (z ⊖ y) (y ⊖ x) (sub-unsigned binary64 z y r w v) u) (add-unsigned binary64 y q (unsigned-of y w) (unsigned-of q (nonneg-of-positive q s))))
+    (div-unsigned binary64 ((z ⊖ y) ⊗ (y ⊖ x)) (y ⊕ q) (mul-unsigned binary64 (z ⊖ y) (y ⊖ x) (sub-unsigned binary64 z y r w v) u) (add-unsigned binary64 y q (unsigned-of y w) (unsigned-of q (finite-unsigned-of-positive q s))))
   where
-    unsigned-of : (x : Float) → T (nonneg x) → T (unsigned x)
+    unsigned-of : (x : Float) → T (finiteUnsigned x) → T (unsigned x)
     unsigned-of nan p = absurd p
     unsigned-of (inf s) p = absurd p
     unsigned-of (fin true m e) p = absurd p

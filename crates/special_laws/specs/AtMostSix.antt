@@ -1,5 +1,6 @@
--- Inside ln, atan and atan2 Carlson's loop takes at most six rounds, for every double. So none reaches 64, and the three have no refusal 15 to pass on.
--- Any R_C takes at most 64. Assumes nothing.
+-- States: `ln-rounds`, `atan-rounds`, `atan2-rounds`: inside ln, atan and atan2 Carlson's loop takes at most six rounds, for every double; `ln-depends`,
+-- `atan-depends`, `atan2-depends`: the three use R_C at such arguments alone; `ln-not-refused`, `atan-not-refused`, `atan2-not-refused`: so they have no refusal 15
+-- to pass on; `rc-rounds`: any R_C takes at most 64. Assumes nothing.
 use mathlib.Core.Path.{_≡_, refl, ap}
 use Prim.Native.Nat.{ℕ, zero, suc, _+_, _≤_, _<_, zero-le}
 use native.Mathlib.Nat.{zero-lt-suc}
@@ -9,10 +10,10 @@ use lib.Ieee.{Float, nan, inf, fin, binary64, ofInt, neg, lt, le, eq, isNan}
 use Rattle.doubles.specs.Rounded.{_⊕_, _⊖_, _⊗_, _⊘_}
 use Rattle.doubles.specs.Constants.{0·0, 1·0, LN2, π/2}
 use Rattle.doubles.specs.Magnitude.{abs}
-use Rattle.carlson.specs.declared.Duplication.{Duplication}
+use Rattle.carlson.specs.declared.RoundC.{RoundC}
 use Rattle.carlson.specs.CarlsonLoop.{maxRounds}
 use Rattle.carlson.specs.RoundLaws.{at-most}
-use Rattle.carlson.specs.Rc.{duplicate, testAt, A₀, Q, duplications, rcOr, rcValue}
+use Rattle.carlson.specs.Rc.{duplicateC, testC, A₀C, QC, duplicationsC, rcOr, rcValue}
 use Rattle.carlson.specs.Logarithm.{exponent, fraction, midpoint, lnAt, lnBy, ln}
 use Rattle.carlson.specs.Arctangent.{withSign, atanWithin, atanBy, atan2By, atan, atan2}
 use Rattle.special_laws.specs.RoundsTaken.{rcRounds, lnRounds, atanRounds, atan2Rounds, WithinSix}
@@ -33,7 +34,7 @@ ln-rounds (fin s m e) = go (eqb m 0) s (above-none m)
     go : (b s : Bool) → (T (not b) → 0 < m) → cond (b || s) 0 (rcRounds (midpoint (fraction m) ⊗ midpoint (fraction m)) (fraction m)) ≤ 6
     go true s M = zero-le
     go false true M = zero-le
-    go false false M = in-ln m (M tt) .few
+    go false false M = in-ln m (M tt) .at-most-six
 
 pub atan-rounds : (z : Float) → atanRounds z ≤ 6
 unfolding atanRounds
@@ -45,8 +46,8 @@ atan-rounds z = go (isNan z) (le (abs z) 1·0) (λ t. t) (λ t. t) (λ t. t)
     go : (n b : Bool) → (T (not n) → T (not (isNan z))) → (T b → T (le (abs z) 1·0)) → (T (not b) → T (not (le (abs z) 1·0)))
         → cond n 0 (cond b (rcRounds 1·0 (1·0 ⊕ z ⊗ z)) (rcRounds 1·0 (1·0 ⊕ w ⊗ w))) ≤ 6
     go true b N H K = zero-le
-    go false true N H K = in-atan z (H tt) .few
-    go false false N H K = in-atan-beyond z (N tt) (K tt) .few
+    go false true N H K = in-atan z (H tt) .at-most-six
+    go false false N H K = in-atan-beyond z (N tt) (K tt) .at-most-six
 
 pub atan2-rounds : (s c : Float) → atan2Rounds s c ≤ 6
 unfolding atan2Rounds
@@ -113,19 +114,19 @@ module _ (d : Float) where
   atan2-not-refused s c = atan2-depends (rcOr d) rcValue agree s c
 
 -- ---- R_C itself takes at most 64 rounds, whatever x and y
-counted : (s : Duplication) → duplicate s .n ≡ s .n + 1
-unfolding duplicate
-counted s = refl
+counts-one : (s : RoundC) → duplicateC s .n ≡ s .n + 1
+unfolding duplicateC
+counts-one s = refl
 
-loop-rounds : (x y : Float) → duplications x y .n ≤ maxRounds
-unfolding duplications
-loop-rounds x y = at-most (testAt (Q x y)) duplicate (λ (s : Duplication). s .n) counted maxRounds (record { x = x; y = y; a = A₀ x y; f = 1·0; n = 0 })
+loop-rounds : (x y : Float) → duplicationsC x y .n ≤ maxRounds
+unfolding duplicationsC
+loop-rounds x y = at-most (testC (QC x y)) duplicateC (λ (s : RoundC). s .n) counts-one maxRounds (record { x = x; y = y; a = A₀C x y; f = 1·0; n = 0 })
 
 pub rc-rounds : (x y : Float) → rcRounds x y ≤ maxRounds
 unfolding rcRounds
 rc-rounds x y = go (eq y 0·0) (lt y 0·0)
   where
-    go : (a b : Bool) → cond a 0 (cond b (duplications (x ⊖ y) (neg y) .n) (duplications x y .n)) ≤ maxRounds
+    go : (a b : Bool) → cond a 0 (cond b (duplicationsC (x ⊖ y) (neg y) .n) (duplicationsC x y .n)) ≤ maxRounds
     go true b = zero-le
     go false true = loop-rounds (x ⊖ y) (neg y)
     go false false = loop-rounds x y

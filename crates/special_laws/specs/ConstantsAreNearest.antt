@@ -1,5 +1,6 @@
--- The constants of Carlson's integrals and of the ring: those with a decimal value are the doubles nearest it. Of the three powers of ε, which are as the reference build has
--- them, one is the nearest double and two are a few units in the last place low, since the Rust's exponent is -1/6 rounded: they bound an error, and enter no value. Assumes nothing.
+-- The constants of Carlson's integrals and of the ring. States: `constants-are-nearest`: those with a decimal value are the doubles nearest it. Of the three powers
+-- of ε, which are as the reference build has them: `eighth-is-nearest`: one is the nearest double; `sixth-is-two-low` and `sixth-of-quarter-is`: two are a few units
+-- in the last place low, since the Rust's exponent is -1/6 rounded. They bound an error, and enter no value. Assumes nothing.
 use mathlib.Core.Path.{_≡_, refl}
 use mathlib.Core.List.{[], _∷_}
 use mathlib.Core.Bool.{false}
@@ -10,10 +11,10 @@ use lib.Ieee.{fin, round, ofBits}
 use Rattle.doubles.specs.ConstantsAreNearest.{_over_}
 use Rattle.carlson.specs.Constants.{[3ε]^-⅛, 22·0, 159·0, 208·0}
 use Rattle.special_rf_rd.specs.Constants.{[3ε]^-⅙, [ε/4]^-⅙, 14·0, 26·0, 44·0, 52·0, 88·0}
-use Rattle.rings.specs.Constants.{9·10⁻⁸, 16·0, 72·0}
+use Rattle.rings.specs.Constants.{9e-8, 16·0, 72·0}
 
 pub constants-are-nearest :
-    22·0 ∷ 159·0 ∷ 208·0 ∷ 14·0 ∷ 26·0 ∷ 44·0 ∷ 52·0 ∷ 88·0 ∷ 9·10⁻⁸ ∷ 16·0 ∷ 72·0 ∷ []
+    22·0 ∷ 159·0 ∷ 208·0 ∷ 14·0 ∷ 26·0 ∷ 44·0 ∷ 52·0 ∷ 88·0 ∷ 9e-8 ∷ 16·0 ∷ 72·0 ∷ []
     ≡ 22 over 1 ∷ 159 over 1 ∷ 208 over 1 ∷ 14 over 1 ∷ 26 over 1 ∷ 44 over 1 ∷ 52 over 1 ∷ 88 over 1 ∷ 9 over (10 ^ 8) ∷ 16 over 1 ∷ 72 over 1 ∷ []
 unfolding _over_ round ofBits
 constants-are-nearest = refl

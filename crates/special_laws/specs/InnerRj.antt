@@ -1,5 +1,6 @@
--- In R_J's domain the three in order are x ≤ y ≤ z with y above zero, so that for p below zero the inner R_J of Eq. 2.23a has its p' above zero, or infinite, or a NaN: `rjSorted` is
--- the Rust's recursion. Assumes nothing.
+-- States: `inner-rj`, at the end: for x, y, z in R_J's domain and p finite and below zero, the inner R_J of Carlson's Eq. 2.23a, at x, y, z in order and p', is the
+-- one for p above zero. So `rjSorted`, which calls that one, is the Rust's recursion. For in the domain the three in order are x ≤ y ≤ z with y above zero, so that
+-- p' is above zero, or infinite, or a NaN (`AbovePole`). Assumes nothing.
 use mathlib.Core.Path.{_≡_, refl, sym, _∙_}
 use mathlib.Core.Logic.{_⊎_, inl, inr}
 use mathlib.Core.Bool.{Bool, true, false, not, _&&_, _||_, cond, true≢false}
@@ -15,22 +16,22 @@ use borrow.Author.Tests.{not-true}
 use Rattle.doubles.specs.Rounded.{_⊖_}
 use Rattle.doubles.specs.Constants.{0·0}
 use Rattle.doubles.specs.Magnitude.{max, min}
-use Rattle.doubles.proofs.Nonneg.{nonneg-of-positive, cross→le}
+use Rattle.doubles.proofs.FiniteUnsigned.{finite-unsigned-of-positive, cross→le}
 use Rattle.doubles.proofs.Signs.{zero-equals, true→T, false→T}
-use Rattle.special_rj.specs.Rj.{least, middle, greatest}
+use Rattle.special_rj.specs.Rj.{leastOf, middleOf, greatestOf, p', rj, rjAbove}
 use Rattle.special.specs.Domain.{finiteNotBelowZero, moreThanOneZero, inDomain}
 use Rattle.special_laws.specs.AbovePole.{unsigned, sub-unsigned, add-unsigned, Inner, p'-above, inner-of}
 
 -- finite and not below zero: -0 is in
-abbrev upward : Float → Bool
-upward nan = false
-upward (inf s) = false
-upward (fin false m e) = true
-upward (fin true zero e) = true
-upward (fin true (suc m) e) = false
+abbrev notBelowZero : Float → Bool
+notBelowZero nan = false
+notBelowZero (inf s) = false
+notBelowZero (fin false m e) = true
+notBelowZero (fin true zero e) = true
+notBelowZero (fin true (suc m) e) = false
 
-nothing : (u v : ℕ) → 0 * u * v ≡ 0
-nothing u v = omega arith
+zero-product : (u v : ℕ) → 0 * u * v ≡ 0
+zero-product u v = omega arith
 
 -- ---- the order by fractions
 infix 40 _≼_
@@ -40,7 +41,7 @@ x ≼ y = num x * den y ≤ num y * den x
 ≼-trans : (x y z : Float) → x ≼ y → y ≼ z → x ≼ z
 ≼-trans x y z h k = through (num x) (num y) (num z) (den x) (den y) (den z) (den-pos y) h k
 
-lt-less : (x y : Float) → T (upward x) → T (upward y) → T (lt x y) → num x * den y < num y * den x
+lt-less : (x y : Float) → T (notBelowZero x) → T (notBelowZero y) → T (lt x y) → num x * den y < num y * den x
 unfolding lt
 lt-less nan y p q h = absurd p
 lt-less (inf s) y p q h = absurd p
@@ -52,14 +53,14 @@ lt-less (fin true (suc m) e) (fin t n d) p q h = absurd p
 lt-less (fin true zero e) (fin false n d) p q h = less (ltb→lt 0 (0 * up e * down d + n * up d * down e) h)
   where
     less : 0 < 0 * up e * down d + n * up d * down e → 0 * up e * down d < n * up d * down e
-    less l = let z = nothing (up e) (down d) in omega arith
+    less l = let z = zero-product (up e) (down d) in omega arith
 lt-less (fin true zero e) (fin true (suc n) d) p q h = absurd q
 lt-less (fin true zero e) (fin true zero d) p q h = absurd (no (ltb→lt (0 * up d * down e) (0 * up e * down d) h))
   where
     no : 0 * up d * down e < 0 * up e * down d → ⊥
-    no l = let a = nothing (up d) (down e) in let b = nothing (up e) (down d) in omega arith
+    no l = let a = zero-product (up d) (down e) in let b = zero-product (up e) (down d) in omega arith
 
-not-lt-le : (x y : Float) → T (upward x) → T (upward y) → T (not (lt x y)) → y ≼ x
+not-lt-le : (x y : Float) → T (notBelowZero x) → T (notBelowZero y) → T (not (lt x y)) → y ≼ x
 unfolding lt
 not-lt-le nan y p q h = absurd p
 not-lt-le (inf s) y p q h = absurd p
@@ -67,23 +68,23 @@ not-lt-le (fin s m e) nan p q h = absurd q
 not-lt-le (fin s m e) (inf t) p q h = absurd q
 not-lt-le (fin false m e) (fin false n d) p q h = nltb→le (m * up e * down d) (n * up d * down e) h
 not-lt-le (fin false m e) (fin true (suc n) d) p q h = absurd q
-not-lt-le (fin false m e) (fin true zero d) p q h = le-trans (le-of-eq (nothing (up d) (down e))) zero-le
+not-lt-le (fin false m e) (fin true zero d) p q h = le-trans (le-of-eq (zero-product (up d) (down e))) zero-le
 not-lt-le (fin true (suc m) e) (fin t n d) p q h = absurd p
 not-lt-le (fin true zero e) (fin false n d) p q h =
     let l = nltb→le 0 (0 * up e * down d + n * up d * down e) h in
     le-trans (le-sum l) zero-le
   where
     le-sum : 0 * up e * down d + n * up d * down e ≤ 0 → n * up d * down e ≤ 0
-    le-sum l = let z = nothing (up e) (down d) in omega arith
+    le-sum l = let z = zero-product (up e) (down d) in omega arith
 not-lt-le (fin true zero e) (fin true (suc n) d) p q h = absurd q
-not-lt-le (fin true zero e) (fin true zero d) p q h = le-trans (le-of-eq (nothing (up d) (down e))) zero-le
+not-lt-le (fin true zero e) (fin true zero d) p q h = le-trans (le-of-eq (zero-product (up d) (down e))) zero-le
 
 -- ---- the smaller and the larger of two
-no-nan : (x : Float) → T (upward x) → isNan x ≡ false
+not-nan : (x : Float) → T (notBelowZero x) → isNan x ≡ false
 unfolding isNan
-no-nan nan p = absurd p
-no-nan (inf s) p = absurd p
-no-nan (fin s m e) p = refl
+not-nan nan p = absurd p
+not-nan (inf s) p = absurd p
+not-nan (fin s m e) p = refl
 
 module _ (u v : Float) (P : Float → Type 0) (p : P u) (q : P v) where
   either-has : (b : Bool) → P (cond b v u)
@@ -98,10 +99,10 @@ module _ (u v : Float) (P : Float → Type 0) (p : P u) (q : P v) where
   unfolding max
   max-has = either-has (isNan u || lt u v)
 
-module _ (u v : Float) (p : T (upward u)) (q : T (upward v)) where
+module _ (u v : Float) (p : T (notBelowZero u)) (q : T (notBelowZero v)) where
   min-left : min u v ≼ u
   unfolding min
-  min-left = rw (no-nan u p) (go (lt v u) refl)
+  min-left = rw (not-nan u p) (go (lt v u) refl)
     where
       go : (b : Bool) → lt v u ≡ b → cond b v u ≼ u
       go true e = le-of-lt (lt-less v u q p (true→T e))
@@ -109,7 +110,7 @@ module _ (u v : Float) (p : T (upward u)) (q : T (upward v)) where
 
   max-left : u ≼ max u v
   unfolding max
-  max-left = rw (no-nan u p) (go (lt u v) refl)
+  max-left = rw (not-nan u p) (go (lt u v) refl)
     where
       go : (b : Bool) → lt u v ≡ b → u ≼ cond b v u
       go true e = le-of-lt (lt-less u v p q (true→T e))
@@ -117,23 +118,23 @@ module _ (u v : Float) (p : T (upward u)) (q : T (upward v)) where
 
   max-right : v ≼ max u v
   unfolding max
-  max-right = rw (no-nan u p) (go (lt u v) refl)
+  max-right = rw (not-nan u p) (go (lt u v) refl)
     where
       go : (b : Bool) → lt u v ≡ b → v ≼ cond b v u
       go true e = le-refl (num v * den v)
       go false e = not-lt-le u v p q (false→T e)
 
-  in-order : min u v ≼ max u v
-  in-order = ≼-trans (min u v) u (max u v) min-left max-left
+  min-under-max : min u v ≼ max u v
+  min-under-max = ≼-trans (min u v) u (max u v) min-left max-left
 
 -- ---- not zero is above zero
-num-above : (x : Float) → T (upward x) → eq x 0·0 ≡ false → 0 < num x
+num-above : (x : Float) → T (notBelowZero x) → eq x 0·0 ≡ false → 0 < num x
 num-above nan p h = absurd p
 num-above (inf s) p h = absurd p
 num-above (fin s zero e) p h = absurd (true≢false (sym (zero-equals s e) ∙ h))
 num-above (fin s (suc m) e) p h = mul-pos (zero-lt-suc m) (up-pos e)
 
-is-positive : (x : Float) → T (upward x) → 0 < num x → T (positive x)
+is-positive : (x : Float) → T (notBelowZero x) → 0 < num x → T (positive x)
 is-positive nan p h = absurd p
 is-positive (inf s) p h = absurd p
 is-positive (fin true (suc m) e) p h = absurd p
@@ -147,21 +148,21 @@ under-positive : (x y : Float) → x ≼ y → 0 < num x → 0 < num y
 under-positive x y h p = first-pos (num y) (den x) (le-trans (mul-pos p (den-pos y)) h)
 
 -- ---- the domain
-upward-of : (x : Float) → T (finiteNotBelowZero x) → T (upward x)
+not-below-zero-of : (x : Float) → T (finiteNotBelowZero x) → T (notBelowZero x)
 unfolding finiteNotBelowZero le lt eq ofBits
-upward-of nan h = absurd h
-upward-of (inf s) h = absurd h
-upward-of (fin false m e) h = tt
-upward-of (fin true zero e) h = tt
-upward-of (fin true (suc m) e) h = absurd (no (eqb→eq (0 * 1 * down e) (suc m * up e * 1) (and-l (eqb (0 * 1 * down e) (suc m * up e * 1)) (eqb (0 * 1 * down e) 0) h)))
+not-below-zero-of nan h = absurd h
+not-below-zero-of (inf s) h = absurd h
+not-below-zero-of (fin false m e) h = tt
+not-below-zero-of (fin true zero e) h = tt
+not-below-zero-of (fin true (suc m) e) h = absurd (no (eqb→eq (0 * 1 * down e) (suc m * up e * 1) (and-l (eqb (0 * 1 * down e) (suc m * up e * 1)) (eqb (0 * 1 * down e) 0) h)))
   where
     no : 0 * 1 * down e ≡ suc m * up e * 1 → ⊥
-    no f = let l : 0 < suc m * up e = mul-pos (zero-lt-suc m) (up-pos e) in let z = nothing 1 (down e) in omega arith
+    no f = let l : 0 < suc m * up e = mul-pos (zero-lt-suc m) (up-pos e) in let z = zero-product 1 (down e) in omega arith
 
 abbrev OneAbove : Float → Float → Type 0
 OneAbove u v = (0 < num u) ⊎ (0 < num v)
 
-one-above : (u v : Float) → T (upward u) → T (upward v) → eq u 0·0 && eq v 0·0 ≡ false → OneAbove u v
+one-above : (u v : Float) → T (notBelowZero u) → T (notBelowZero v) → eq u 0·0 && eq v 0·0 ≡ false → OneAbove u v
 one-above u v p q h = go (eq u 0·0) refl h
   where
     go : (b : Bool) → eq u 0·0 ≡ b → b && eq v 0·0 ≡ false → OneAbove u v
@@ -174,11 +175,11 @@ pairs true false r h = (refl, h, refl)
 pairs false true r h = (refl, refl, h)
 pairs false false r h = (refl, refl, refl)
 
-diff-unsigned : (y x : Float) → T (positive y) → T (upward x) → x ≼ y → T (unsigned (y ⊖ x))
+diff-unsigned : (y x : Float) → T (positive y) → T (notBelowZero x) → x ≼ y → T (unsigned (y ⊖ x))
 unfolding sub neg
 diff-unsigned y nan p q h = absurd q
 diff-unsigned y (inf s) p q h = absurd q
-diff-unsigned y (fin false m e) p q h = let w = nonneg-of-positive y p in sub-unsigned binary64 y (fin false m e) w tt (cross→le (fin false m e) y tt w h)
+diff-unsigned y (fin false m e) p q h = let w = finite-unsigned-of-positive y p in sub-unsigned binary64 y (fin false m e) w tt (cross→le (fin false m e) y tt w h)
 diff-unsigned y (fin true (suc m) e) p q h = absurd q
 diff-unsigned y (fin true zero e) p q h = less-minus y p
   where
@@ -195,77 +196,79 @@ positive-neg (inf s) f h = absurd f
 positive-neg (fin false m e) f h = absurd (no (ltb→lt (m * up e * 1) (0 * 1 * down e) h))
   where
     no : m * up e * 1 < 0 * 1 * down e → ⊥
-    no l = let z = nothing 1 (down e) in omega arith
+    no l = let z = zero-product 1 (down e) in omega arith
 positive-neg (fin true m e) f h = lt→ltb 0 m (first-pos m (up e) (more (ltb→lt 0 (m * up e * 1 + 0 * 1 * down e) h)))
   where
     more : 0 < m * up e * 1 + 0 * 1 * down e → 0 < m * up e
-    more l = let z = nothing 1 (down e) in omega arith
+    more l = let z = zero-product 1 (down e) in omega arith
 
 -- ---- the three in order
-module _ (x y z : Float) (p : T (upward x)) (q : T (upward y)) (r : T (upward z)) (xy : OneAbove x y) (xz : OneAbove x z) (yz : OneAbove y z) where
-  a-up : T (upward (min x y))
-  a-up = min-has x y (λ (w : Float). T (upward w)) p q
+module _ (x y z : Float) (p : T (notBelowZero x)) (q : T (notBelowZero y)) (r : T (notBelowZero z)) (xy : OneAbove x y) (xz : OneAbove x z) (yz : OneAbove y z) where
+  min-not-below : T (notBelowZero (min x y))
+  min-not-below = min-has x y (λ (w : Float). T (notBelowZero w)) p q
 
-  b-up : T (upward (max x y))
-  b-up = max-has x y (λ (w : Float). T (upward w)) p q
+  max-not-below : T (notBelowZero (max x y))
+  max-not-below = max-has x y (λ (w : Float). T (notBelowZero w)) p q
 
-  c-up : T (upward (min (max x y) z))
-  c-up = min-has (max x y) z (λ (w : Float). T (upward w)) b-up r
+  inner-min-not-below : T (notBelowZero (min (max x y) z))
+  inner-min-not-below = min-has (max x y) z (λ (w : Float). T (notBelowZero w)) max-not-below r
 
   -- two of the three are above zero
-  middle-above : 0 < num (middle x y z)
+  middle-above : 0 < num (middleOf x y z)
   middle-above = go xy xz yz
     where
-      by-first : 0 < num x → 0 < num y → 0 < num (middle x y z)
-      by-first h k = under-positive (min x y) (middle x y z) (max-left (min x y) (min (max x y) z) a-up c-up) (min-has x y (λ (w : Float). 0 < num w) h k)
+      by-first : 0 < num x → 0 < num y → 0 < num (middleOf x y z)
+      by-first h k = under-positive (min x y) (middleOf x y z) (max-left (min x y) (min (max x y) z) min-not-below inner-min-not-below) (min-has x y (λ (w : Float). 0 < num w) h k)
 
-      by-second : 0 < num (max x y) → 0 < num z → 0 < num (middle x y z)
+      by-second : 0 < num (max x y) → 0 < num z → 0 < num (middleOf x y z)
       by-second h k =
-          under-positive (min (max x y) z) (middle x y z) (max-right (min x y) (min (max x y) z) a-up c-up) (min-has (max x y) z (λ (w : Float). 0 < num w) h k)
+          under-positive (min (max x y) z) (middleOf x y z) (max-right (min x y) (min (max x y) z) min-not-below inner-min-not-below) (min-has (max x y) z (λ (w : Float). 0 < num w) h k)
 
-      go : OneAbove x y → OneAbove x z → OneAbove y z → 0 < num (middle x y z)
+      go : OneAbove x y → OneAbove x z → OneAbove y z → 0 < num (middleOf x y z)
       go (inl h) b (inl k) = by-first h k
       go (inl h) b (inr k) = by-second (under-positive x (max x y) (max-left x y p q) h) k
       go (inr h) (inl k) c = by-first k h
       go (inr h) (inr k) c = by-second (under-positive y (max x y) (max-right x y p q) h) k
 
-  under-greatest : middle x y z ≼ greatest x y z
+  under-greatest : middleOf x y z ≼ greatestOf x y z
   under-greatest =
-      max-has (min x y) (min (max x y) z) (λ (w : Float). w ≼ greatest x y z)
-      (≼-trans (min x y) (max x y) (greatest x y z) (in-order x y p q) (max-left (max x y) z b-up r))
-      (in-order (max x y) z b-up r)
+      max-has (min x y) (min (max x y) z) (λ (w : Float). w ≼ greatestOf x y z)
+      (≼-trans (min x y) (max x y) (greatestOf x y z) (min-under-max x y p q) (max-left (max x y) z max-not-below r))
+      (min-under-max (max x y) z max-not-below r)
 
-  least-under : least x y z ≼ middle x y z
-  least-under = ≼-trans (least x y z) (min x y) (middle x y z) (min-left (min x y) z a-up r) (max-left (min x y) (min (max x y) z) a-up c-up)
+  least-under : leastOf x y z ≼ middleOf x y z
+  least-under = ≼-trans (leastOf x y z) (min x y) (middleOf x y z) (min-left (min x y) z min-not-below r) (max-left (min x y) (min (max x y) z) min-not-below inner-min-not-below)
 
-  sorted : (s : Float) → T (positive s) → T (fits binary64 x) → T (fits binary64 y) → T (fits binary64 z) → Inner (least x y z) (middle x y z) (greatest x y z) s
+  sorted : (s : Float) → T (positive s) → T (fits binary64 x) → T (fits binary64 y) → T (fits binary64 z) → Inner (leastOf x y z) (middleOf x y z) (greatestOf x y z) s
   sorted s h fx fy fz =
       let fit : Float → Type 0 = λ (w : Float). T (fits binary64 w) in
       let fb = max-has x y fit fx fy in
-      let m-up : T (upward (middle x y z)) = max-has (min x y) (min (max x y) z) (λ (w : Float). T (upward w)) a-up c-up in
-      let m-pos : T (positive (middle x y z)) = is-positive (middle x y z) m-up middle-above in
-      let z-up : T (upward (greatest x y z)) = max-has (max x y) z (λ (w : Float). T (upward w)) b-up r in
-      let z-pos : T (positive (greatest x y z)) = is-positive (greatest x y z) z-up (under-positive (middle x y z) (greatest x y z) under-greatest middle-above) in
-      inner-of (least x y z) (middle x y z) (greatest x y z) s
-      (p'-above (least x y z) (middle x y z) (greatest x y z) s m-pos
+      let middle-not-below : T (notBelowZero (middleOf x y z)) = max-has (min x y) (min (max x y) z) (λ (w : Float). T (notBelowZero w)) min-not-below inner-min-not-below in
+      let m-pos : T (positive (middleOf x y z)) = is-positive (middleOf x y z) middle-not-below middle-above in
+      let greatest-not-below : T (notBelowZero (greatestOf x y z)) = max-has (max x y) z (λ (w : Float). T (notBelowZero w)) max-not-below r in
+      let z-pos : T (positive (greatestOf x y z)) = is-positive (greatestOf x y z) greatest-not-below (under-positive (middleOf x y z) (greatestOf x y z) under-greatest middle-above) in
+      inner-of (leastOf x y z) (middleOf x y z) (greatestOf x y z) s
+      (p'-above (leastOf x y z) (middleOf x y z) (greatestOf x y z) s m-pos
       (max-has (min x y) (min (max x y) z) fit (min-has x y fit fx fy) (min-has (max x y) z fit fb fz))
-      (nonneg-of-positive (greatest x y z) z-pos) h
-      (diff-unsigned (middle x y z) (least x y z) m-pos (min-has (min x y) z (λ (w : Float). T (upward w)) a-up r) least-under)
-      (cross→le (middle x y z) (greatest x y z) (nonneg-of-positive (middle x y z) m-pos) (nonneg-of-positive (greatest x y z) z-pos) under-greatest))
+      (finite-unsigned-of-positive (greatestOf x y z) z-pos) h
+      (diff-unsigned (middleOf x y z) (leastOf x y z) m-pos (min-has (min x y) z (λ (w : Float). T (notBelowZero w)) min-not-below r) least-under)
+      (cross→le (middleOf x y z) (greatestOf x y z) (finite-unsigned-of-positive (middleOf x y z) m-pos) (finite-unsigned-of-positive (greatestOf x y z) z-pos) under-greatest))
 
--- in the domain, with p below zero
 and-two : (a b : Bool) → a && b ≡ true → (a ≡ true) × (b ≡ true)
 and-two true b h = (refl, h)
 and-two false b h = absurd (true≢false (sym h))
 
-pub inner-rj : (x y z p : Float) → T (fits binary64 x) → T (fits binary64 y) → T (fits binary64 z) → inDomain x y z ≡ true → finite p ≡ true → lt p 0·0 ≡ true → Inner (least x y z) (middle x y z) (greatest x y z) (neg p)
+-- with a ≤ b ≤ c for x, y, z in order, R_J(a, b, c, p') is the R_J for p above zero
+pub inner-rj :
+    (x y z p : Float) → T (fits binary64 x) → T (fits binary64 y) → T (fits binary64 z) → inDomain x y z ≡ true → finite p ≡ true → lt p 0·0 ≡ true
+    → let a = leastOf x y z in let b = middleOf x y z in let c = greatestOf x y z in rj a b c (p' a b c (neg p)) ≡ rjAbove a b c (p' a b c (neg p))
 unfolding inDomain moreThanOneZero
 inner-rj x y z p fx fy fz d f l =
     let s₃ = and-two (finiteNotBelowZero x && finiteNotBelowZero y && finiteNotBelowZero z) (not (moreThanOneZero x y z)) d in
     let s₂ = and-two (finiteNotBelowZero x && finiteNotBelowZero y) (finiteNotBelowZero z) (s₃ .0) in
     let s₁ = and-two (finiteNotBelowZero x) (finiteNotBelowZero y) (s₂ .0) in
-    let ux = upward-of x (true→T (s₁ .0)) in
-    let uy = upward-of y (true→T (s₁ .1)) in
-    let uz = upward-of z (true→T (s₂ .1)) in
+    let ux = not-below-zero-of x (true→T (s₁ .0)) in
+    let uy = not-below-zero-of y (true→T (s₁ .1)) in
+    let uz = not-below-zero-of z (true→T (s₂ .1)) in
     let w = pairs (eq x 0·0) (eq y 0·0) (eq z 0·0) (not-true (moreThanOneZero x y z) (s₃ .1)) in
     sorted x y z ux uy uz (one-above x y ux uy (w .0)) (one-above x z ux uz (w .1)) (one-above y z uy uz (w .2)) (neg p) (positive-neg p (true→T f) (true→T l)) fx fy fz

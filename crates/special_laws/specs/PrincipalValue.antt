@@ -1,4 +1,5 @@
--- For y below zero R_C(x, y) is √(x / (x - y)) R_C(x - y, -y), as the Rust writes it: -y is above zero, so that its loop is R_C. Assumes nothing.
+-- States: `principal-value`: for y below zero R_C(x, y) is √(x / (x - y)) R_C(x - y, -y), as the Rust writes it: -y is above zero, so that its loop is R_C.
+-- Assumes nothing.
 use mathlib.Core.Path.{_≡_, refl, subst}
 use mathlib.Core.Bool.{Bool, true, false, false≢true}
 use Prim.Native.Nat.{ℕ, _+_, _*_, _<_}
@@ -12,7 +13,7 @@ use Rattle.doubles.specs.Rounded.{_⊖_, _⊘_}
 use Rattle.doubles.specs.Constants.{0·0}
 use Rattle.doubles.proofs.Signs.{true→T, is-zero, above-zero}
 use Rattle.roots.specs.Root.{Root}
-use Rattle.carlson.specs.Rc.{times, rc}
+use Rattle.carlson.specs.Rc.{timesIntegral, rc}
 
 below-none : (a b : ℕ) → b ≡ 0 → a < b → ⊥
 below-none a b e h = omega arith
@@ -42,6 +43,6 @@ opposite (fin true m e) h = above-zero (fin false m e) (lt→ltb 0 m (first-pos 
     digits a b z g = omega arith
 opposite (fin false m e) h = absurd (below-none (m * up e * 1) (0 * down e) (zero-mul (down e)) (ltb→lt (m * up e * 1) (0 * down e) (true→T h)))
 
-pub principal-value : (x y : Float) → lt y 0·0 ≡ true → rc x y ≡ times (Root (x ⊘ (x ⊖ y))) (rc (x ⊖ y) (neg y))
+pub principal-value : (x y : Float) → lt y 0·0 ≡ true → rc x y ≡ timesIntegral (Root (x ⊘ (x ⊖ y))) (rc (x ⊖ y) (neg y))
 unfolding rc
 principal-value x y h = let o = opposite y h in rw (not-zero y h, h, o .0, o .1)

@@ -8,11 +8,11 @@ use Rattle.doubles.specs.Rounded.{_⊕_, _⊖_, _⊗_, _⊘_}
 use Rattle.doubles.specs.Constants.{0·0, 1·0}
 use Rattle.doubles.specs.Magnitude.{abs}
 use Rattle.carlson.specs.declared.Integral.the-variants.{Value}
-use Rattle.carlson.specs.Rc.{Q, testAt, duplications, rc, rcValue}
+use Rattle.carlson.specs.Rc.{QC, testC, duplicationsC, rc, rcValue}
 use Rattle.carlson.specs.Logarithm.{fraction, midpoint}
 
 unfoldable pub rcRounds : Float → Float → ℕ
-rcRounds x y = cond (eq y 0·0) 0 (cond (lt y 0·0) (duplications (x ⊖ y) (neg y) .n) (duplications x y .n))
+rcRounds x y = cond (eq y 0·0) 0 (cond (lt y 0·0) (duplicationsC (x ⊖ y) (neg y) .n) (duplicationsC x y .n))
 
 unfoldable pub lnRounds : Float → ℕ
 lnRounds nan = 0
@@ -29,6 +29,6 @@ atan2Rounds s c = cond (isNan s || isNan c || eq s 0·0 || eq c 0·0) 0 (atanRou
 
 -- for y above zero: R_C(x, y) takes at most six rounds, after which the loop's test is false, and is not refused
 pub record WithinSix (x y : Float) : Type 0 where
-  pub few : rcRounds x y ≤ 6
-  pub ended : testAt (Q x y) (duplications x y) ≡ false
+  pub at-most-six : rcRounds x y ≤ 6
+  pub ended : testC (QC x y) (duplicationsC x y) ≡ false
   pub answered : rc x y ≡ Value (rcValue x y)

@@ -1,5 +1,5 @@
--- Carlson's R_D(x, y, z) = 3/2 ∫ dt / ((t + z) √((t + x)(t + y)(t + z))) over t from 0 to ∞, by duplication (Carlson 1995, section 2), with the roundings in the order of the Rust
--- and at most 64 rounds. Definitions only.
+-- Carlson's R_D(x, y, z) = 3/2 ∫ dt / ((t + z) √((t + x)(t + y)(t + z))) over t from 0 to ∞, by duplication (Carlson 1995, section 2), with the roundings in
+-- the order of the Rust and at most 64 rounds. Definitions only.
 use mathlib.Core.Bool.{Bool, cond}
 use lib.Ieee.{Float, neg}
 use Rattle.doubles.specs.Rounded.{_⊕_, _⊖_, _⊗_, _⊘_}
@@ -30,11 +30,11 @@ duplicateD s =
 abbrev pub testD : Float → RoundD → Bool
 testD q s = loopTest q (s .a) (s .f)
 
-abbrev pub A₀ : Float → Float → Float → Float
-A₀ x y z = (x ⊕ y ⊕ 3·0 ⊗ z) ⊘ 5·0
+abbrev pub A₀D : Float → Float → Float → Float
+A₀D x y z = (x ⊕ y ⊕ 3·0 ⊗ z) ⊘ 5·0
 
-abbrev pub Q : Float → Float → Float → Float
-Q x y z = [ε/4]^-⅙ ⊗ maxDistance (A₀ x y z) x y z
+abbrev pub QD : Float → Float → Float → Float
+QD x y z = [ε/4]^-⅙ ⊗ maxDistance (A₀D x y z) x y z
 
 -- the series at Z = -(X + Y)/3, E₂ = XY - 6Z², E₃ = (3XY - 8Z²)Z, E₄ = 3(XY - Z²)Z² and E₅ = XYZ³
 unfoldable pub seriesD : Float → Float → Float
@@ -44,12 +44,12 @@ seriesD X Y =
 
 -- the state after the loop
 unfoldable pub duplicationsD : Float → Float → Float → RoundD
-duplicationsD x y z = rounds (testD (Q x y z)) duplicateD maxRounds (record { x = x; y = y; z = z; a = A₀ x y z; f = 1·0; sum = 0·0 })
+duplicationsD x y z = rounds (testD (QD x y z)) duplicateD maxRounds (record { x = x; y = y; z = z; a = A₀D x y z; f = 1·0; sum = 0·0 })
 
 -- 4⁻ⁿ Aₙ^(-3/2) times the series at X and Y, and three times the sum; refused where the test still holds
 unfoldable pub rd : Float → Float → Float → Integral
 rd x y z =
     let s = duplicationsD x y z in
-    let at : Float → Float = λ (w : Float). X (A₀ x y z) w (s .f) (s .a) in
-    cond (testD (Q x y z) s) (Refused TooManyRounds)
+    let at : Float → Float = λ (w : Float). X (A₀D x y z) w (s .f) (s .a) in
+    cond (testD (QD x y z) s) (Refused TooManyRounds)
     (Value (s .f ⊘ (s .a ⊗ Root (s .a)) ⊗ seriesD (at x) (at y) ⊕ 3·0 ⊗ s .sum))

@@ -9,10 +9,10 @@ ghost use Rattle.special_rf_rd.specs.Rf.{duplicateF, testF, seriesF, rf}
 ghost use Rattle.special_rf_rd.specs.Rd.{duplicateD, testD, seriesD, rd};
 
 // (3ε)^(-1/6)
-const RF_FACTOR: f64 = 338.3813509546826;
+const RF_FACTOR: f64 = f64::from_bits(0x4075_261a_0375_6a90);
 
 // (ε/4)^(-1/6), for R_D and R_J
-pub const RD_FACTOR: f64 = 511.99999999999983;
+pub const RD_FACTOR: f64 = f64::from_bits(0x407f_ffff_ffff_fffd);
 
 // What the duplication of R_F carries from round to round: Carlson's x, y, z and A at round n, and
 // f = 4^-n.

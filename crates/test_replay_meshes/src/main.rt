@@ -5,20 +5,20 @@
 ghost use Prim.Native.Nat.{_≤_};
 ghost use lib.ListN.{length};
 use libc::STDOUT_FILENO;
-use mesh::Mesh;
+use mesh::Solid;
 use test_replay::lines;
 use test_replay::runs;
 use test_replay::word_at;
 
-fn is(m: Mesh, number: u64, a: u64, b: u64) -> bool {
+fn is(m: Solid, number: u64, a: u64, b: u64) -> bool {
     match m {
-        Mesh::Volume(v) => {
+        Solid::Volume(v) => {
             if number != 0 {
                 return false;
             }
             doubles::to_bits(v) == a
         }
-        Mesh::Refused(r) => {
+        Solid::Refused(r) => {
             if refusals::number(r) as u64 != number {
                 return false;
             }
@@ -55,7 +55,7 @@ fn agrees(s: &[u8], v: usize, f: usize, n: usize) -> bool
 }
 
 // The answer to v zeros as vertices and f zeros as faces.
-fn zeros(v: usize, f: usize) -> Mesh
+fn zeros(v: usize, f: usize) -> Solid
     requires { ⌜ (v ≤ 60003) × (f ≤ 98307) ⌝ }
 {
     let verts = runs::vertex_room();

@@ -1,13 +1,11 @@
 // Writes what a sheet holds anew, and compares: a test of the writer and the checker against each other.
 ghost use mathlib.Core.Path.{_≡_};
-ghost use mathlib.Core.Bool.{true};
-ghost use Prim.Native.Nat.{_+_, _*_, _≤_, _<_};
-ghost use lib.ListN.{length, getD};
-ghost use Rattle.test_rewrite.specs.Same.{Same};
+ghost use Prim.Native.Nat.{_+_, _*_, _≤_};
+ghost use lib.ListN.{length};
+ghost use Rattle.sheet.specs.Bytes.{trailerLength};
 use newtonian::Vector;
+use sheet::TRAILER_LENGTH;
 use writer::Written;
-
-const TRAILER_LENGTH: usize = 80;
 
 // What stands past the sheet.
 const MARK: u8 = 0xa5;
@@ -31,9 +29,7 @@ fn bytes_room() -> [u8; 16392]
 }
 
 // Byte i of the sheet, and then marks.
-fn expected(sheet: &[u8], i: usize) -> u8
-    ensures { λ r. ⌜ (i < length (now (sheet .entry)) → r ≡ getD (now (sheet .entry)) i 0) ⌝ }
-{
+fn expected(sheet: &[u8], i: usize) -> u8 {
     if i < sheet.len() {
         return sheet[i];
     }
@@ -41,10 +37,7 @@ fn expected(sheet: &[u8], i: usize) -> u8
 }
 
 // Whether out is the sheet and then marks.
-fn same(out: &[u8], sheet: &[u8]) -> bool
-    requires { ⌜ length (now sheet) ≤ length (now out) ⌝ }
-    ensures { λ r. ⌜ (r ≡ true → Same (now (out .entry)) (now (sheet .entry))) ⌝ }
-{
+fn same(out: &[u8], sheet: &[u8]) -> bool {
     let mut i = 0;
     while i < out.len() {
         if out[i] != expected(sheet, i) {
@@ -74,7 +67,7 @@ fn compare(
     work: &mut [u32],
     out: &mut [u8],
 ) -> bool
-    requires { ⌜ (80 ≤ length (now sheet)) × (length (now sheet) ≤ length (now out)) ⌝ }
+    requires { ⌜ trailerLength ≤ length (now sheet) ⌝ }
 {
     let at = sheet.len() - TRAILER_LENGTH;
     let kind = sheet_layout::u32_at(sheet, at);
@@ -100,7 +93,7 @@ fn written_anew(
     work: &mut [u32],
     out: &mut [u8],
 ) -> bool
-    requires { ⌜ (8 * length (now verts) + 12 * length (now faces) + 8 * length (now stations) + 80 ≤ length (now sheet)) × (length (now sheet) ≤ length (now out)) × (length (now sheet) ≤ 16384) ⌝ }
+    requires { ⌜ (8 * length (now verts) + 12 * length (now faces) + 8 * length (now stations) + trailerLength ≤ length (now sheet)) × (length (now sheet) ≤ 16384) ⌝ }
 {
     sheet_layout::read_f64s(sheet, 0, verts);
     sheet_layout::read_u32s(sheet, 8 * verts.len(), faces);
@@ -116,10 +109,11 @@ pub fn is_rewritten(sheet: &[u8]) -> bool
         return false;
     }
     let at = sheet.len() - TRAILER_LENGTH;
+    let row = sheet_rows::kinds::row_length(sheet_layout::u32_at(sheet, at));
     let v = sheet_layout::u32_at(sheet, at + 4) as usize;
     let f = sheet_layout::u32_at(sheet, at + 8) as usize;
     let s = sheet_layout::u32_at(sheet, at + 12) as usize;
-    if at != 24 * v + 36 * f + 88 * s {
+    if at != 24 * v + 36 * f + (24 + row) * s {
         return false;
     }
     let mut verts = doubles_room();

@@ -15,7 +15,7 @@ use Rattle.refusals.specs.declared.Refusal.the-variants.{OutOfLimits, NoSuchVer
 use Rattle.refusals.specs.declared.Cause.{Cause}
 use Rattle.refusals.specs.declared.Cause.the-variants.{None, Refused}
 use Rattle.mesh.specs.Surface.{faceCount, volume}
-use Rattle.mesh.specs.Check.{inLimits, outOfLimits, namesVertex, noSuchVertex, occursOnce, flippedAt, flippedEdge, reverseOccurs, openAt, openEdge, hasNormal, degenerateFace, inverted, orderCause, leavesWork}
+use Rattle.mesh.specs.Check.{inLimits, outOfLimits, namesVertex, noSuchVertex, occursOnce, flippedAt, flippedEdge, reverseOccurs, openAt, openEdge, hasNormal, degenerateFace, inverted, facesCause, orderCause, leavesWork}
 use Rattle.sheet_rows.specs.Row.{isFiniteRow, rowCause}
 use Rattle.sheet_rows.specs.declared.Row.{Row}
 use Rattle.sheet_rows.specs.RowRefusals.{rowAt-refused}
@@ -65,10 +65,10 @@ unfolding noSuchVertex
 of-vertex n f = of-scan LeavesOut (length f) (namesVertex n f) (λ i. NoSuchVertex (i / 3)) (λ i. refl)
 
 pub of-order : (v : List Float) (f o : List ℕ) → Of LeavesOut (orderCause v f o)
-unfolding orderCause flippedEdge openEdge degenerateFace inverted
+unfolding orderCause facesCause flippedEdge openEdge degenerateFace inverted
 of-order v f o =
-    of-else LeavesOut (flippedEdge f o) (orElse (openEdge f o) (orElse (degenerateFace v f) (inverted v f))) (of-scan LeavesOut (length f) (occursOnce f o) (flippedAt f o) (λ i. refl))
-    (of-else LeavesOut (openEdge f o) (orElse (degenerateFace v f) (inverted v f)) (of-scan LeavesOut (length f) (reverseOccurs f o) (openAt f o) (λ i. refl))
+    of-else LeavesOut (flippedEdge f o) (orElse (openEdge f o) (facesCause v f)) (of-scan LeavesOut (length f) (occursOnce f o) (flippedAt f o) (λ i. refl))
+    (of-else LeavesOut (openEdge f o) (facesCause v f) (of-scan LeavesOut (length f) (reverseOccurs f o) (openAt f o) (λ i. refl))
     (of-else LeavesOut (degenerateFace v f) (inverted v f) (of-scan LeavesOut (faceCount f) (hasNormal v f) (λ k. Degenerate k) (λ i. refl))
     (of-unless LeavesOut (lt 0·0 (volume v f)) Inverted refl)))
 

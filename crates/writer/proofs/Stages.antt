@@ -22,18 +22,18 @@ use Rattle.mesh.specs.Surface.{vertex}
 use Rattle.mesh.specs.Check.{orderCause, leavesWork, workAfter}
 use Rattle.mesh.specs.Check as mesh
 use Rattle.mesh.specs.Accepted.{Counted}
-use Rattle.mesh_laws.specs.Laws.{mesh-volume, mesh-refused}
-use Rattle.mesh.specs.declared.Mesh.{Mesh}
+use Rattle.mesh_laws.specs.Laws.{solid-volume, solid-refused}
+use Rattle.mesh.specs.declared.Solid.{Solid}
 use Rattle.prism.specs.Prism.{sidesWithinLimits}
 use Rattle.sheet_rows.specs.Kinds.{isMesh, maxStations, withinCounts}
 use Rattle.sheet.specs.Input.{SheetInput, vertexCount, faceCount, stationCount}
 use Rattle.sheet.specs.Bytes.{volume, sheetLength, sheetBytes}
 use Rattle.sheet.specs.Writer.{malformed, tooMany, tooShort, outOfLimits, noSuchVertex, tooThin, bodyCause, stationCause, writerCause, zeroesOut, outAfter}
 use Rattle.sheet.specs.Promises.{Typed, Kept}
-use Rattle.sheet.specs.WriterLaws.{none-malformed, none-many, none-short, not-mesh, body-of, no-cause, cause-none}
-use Rattle.sheet.specs.Demand3.{kept, sheet-length}
-use Rattle.writer_input_causes.specs.CountCause.{wellFormed, countCause}
-use Rattle.writer_body_causes.specs.BodyChecked.{checkBodyCause, BodyChecked}
+use Rattle.sheet_laws.specs.WriterLaws.{none-malformed, none-many, none-short, not-mesh, body-of, no-cause, cause-none}
+use Rattle.sheet_laws.specs.Demand3.{kept, sheet-length}
+use Rattle.writer_causes.specs.LengthsCause.{wellFormed, lengthsCause}
+use Rattle.sheet_body.specs.BodyChecked.{checkBodyCause, BodyChecked}
 use Rattle.writer_put_sheet.specs.Put.{sheetOrZeros, SheetPut, Prepared}
 use Rattle.writer.specs.declared.Written.{Written}
 use Rattle.writer.specs.declared.Written.the-variants.{Bytes}
@@ -57,7 +57,7 @@ module _ (s : SheetInput) where
   unfolding noSuchVertex bodyCause
   solid-out = of-else LeavesOut (noSuchVertex s) (bodyCause s) (of-vertex (vertexCount s) (s .faces)) (body-out (isMesh (s .kind)))
 
-  pub count-early : (w o : ℕ) → Of Early (countCause s w o)
+  pub count-early : (w o : ℕ) → Of Early (lengthsCause s w o)
   unfolding malformed tooMany tooShort leavesWork
   count-early w o =
       of-else Early (malformed s) (orElse (tooMany s) (tooShort s w o)) (of-unless Early (wellFormed (s .kind) (length (s .vertices)) (length (s .faces)) (length (s .stations))) Malformed (refl, refl))
@@ -101,7 +101,7 @@ module _ (s : SheetInput) where
 
 -- ---- a sheet whose counts are within the limits
 
-module _ (s : SheetInput) (w o : List ℕ) (ok : countCause s (length w) (length o) ≡ None) where
+module _ (s : SheetInput) (w o : List ℕ) (ok : lengthsCause s (length w) (length o) ≡ None) where
   well-formed : malformed s ≡ None
   well-formed = both (malformed s) (orElse (tooMany s) (tooShort s (length w) (length o))) ok .0
 
@@ -120,11 +120,11 @@ module _ (s : SheetInput) (w o : List ℕ) (ok : countCause s (length w) (length
       let m = none-malformed s well-formed in
       (record { coordinates = m .0; corners = m .1 .0; vertices = few .0; faces = few .1; room = room .0 }, λ z. not-mesh s well-formed z .1)
 
-  module _ {r : Mesh} {p : List ℕ} (h : BodyChecked s w r p) where
+  module _ {r : Solid} {p : List ℕ} (h : BodyChecked s w r p) where
     -- the body is refused
-    pub body-refused : (q : Refusal) → r ≡ Mesh.Refused q → Leaves s (lateCause s) w o (written.the-variants.Refused q) p o
+    pub body-refused : (q : Refusal) → r ≡ Solid.Refused q → Leaves s (lateCause s) w o (written.the-variants.Refused q) p o
     body-refused q e =
-        let f = mesh-refused (checkBodyCause s) (volume s) q (sym (h .answer) ∙ e) in
+        let f = solid-refused (checkBodyCause s) (volume s) q (sym (h .answer) ∙ e) in
         let g = ap (λ (d : Cause). orElse d (firstOf (stationCount s) (stationCause s))) f in
         record {
           answer = sym (ap (λ (d : Cause). writtenOf d (sheetLength s)) g);
@@ -133,9 +133,9 @@ module _ (s : SheetInput) (w o : List ℕ) (ok : countCause s (length w) (length
         }
 
     -- it is not
-    module _ (x : Float) (e : r ≡ Mesh.Volume x) where
+    module _ (x : Float) (e : r ≡ Solid.Volume x) where
       solid : (checkBodyCause s ≡ None) × (x ≡ volume s)
-      solid = mesh-volume (checkBodyCause s) (volume s) x (sym (h .answer) ∙ e)
+      solid = solid-volume (checkBodyCause s) (volume s) x (sym (h .answer) ∙ e)
 
       held : p ≡ workAfter None (s .faces) w
       held = h .work ∙ ap (λ (d : Cause). workAfter d (s .faces) w) (solid .0)
@@ -185,7 +185,7 @@ assoc (Refused r) d e = refl
 
 module _ (s : SheetInput) (w o : ℕ) where
   -- in the steps of the code
-  in-steps : writerCause s w o ≡ orElse (countCause s w o) (orElse (outOfLimits s) (lateCause s))
+  in-steps : writerCause s w o ≡ orElse (lengthsCause s w o) (orElse (outOfLimits s) (lateCause s))
   unfolding writerCause
   in-steps =
       let stations = firstOf (stationCount s) (stationCause s) in
@@ -225,20 +225,20 @@ module _ (s : SheetInput) (ty : Typed s) (w o : List ℕ) {r : Written} {p q : L
 -- ---- the returns of `write_sheet`
 
 module _ (s : SheetInput) (ty : Typed s) (w o : List ℕ) where
-  counts-first : (c : Cause) → countCause s (length w) (length o) ≡ c → writerCause s (length w) (length o) ≡ orElse c (orElse (outOfLimits s) (lateCause s))
+  counts-first : (c : Cause) → lengthsCause s (length w) (length o) ≡ c → writerCause s (length w) (length o) ≡ orElse c (orElse (outOfLimits s) (lateCause s))
   counts-first c p = in-steps s (length w) (length o) ∙ ap (λ (d : Cause). orElse d (orElse (outOfLimits s) (lateCause s))) p
 
-  then-limits : (c : Cause) → countCause s (length w) (length o) ≡ None → outOfLimits s ≡ c → writerCause s (length w) (length o) ≡ orElse c (lateCause s)
+  then-limits : (c : Cause) → lengthsCause s (length w) (length o) ≡ None → outOfLimits s ≡ c → writerCause s (length w) (length o) ≡ orElse c (lateCause s)
   then-limits c p e = counts-first None p ∙ ap (λ (d : Cause). orElse d (lateCause s)) e
 
-  pub by-counts : (r : Refusal) → countCause s (length w) (length o) ≡ Refused r → Writes s w o (written.the-variants.Refused r) w o
+  pub by-counts : (r : Refusal) → lengthsCause s (length w) (length o) ≡ Refused r → Writes s w o (written.the-variants.Refused r) w o
   by-counts r e =
       writes s ty w o
-      (untouched s (writerCause s (length w) (length o)) r w o (counts-first (Refused r) e) (of-refused Early (countCause s (length w) (length o)) r (count-early s (length w) (length o)) e))
+      (untouched s (writerCause s (length w) (length o)) r w o (counts-first (Refused r) e) (of-refused Early (lengthsCause s (length w) (length o)) r (count-early s (length w) (length o)) e))
 
-  pub by-limits : (r : Refusal) → countCause s (length w) (length o) ≡ None → outOfLimits s ≡ Refused r → Writes s w o (written.the-variants.Refused r) w o
+  pub by-limits : (r : Refusal) → lengthsCause s (length w) (length o) ≡ None → outOfLimits s ≡ Refused r → Writes s w o (written.the-variants.Refused r) w o
   by-limits r p e =
       writes s ty w o (untouched s (writerCause s (length w) (length o)) r w o (then-limits (Refused r) p e) (of-refused Early (outOfLimits s) r (limits-early s) e))
 
-  pub later : {r : Written} {p q : List ℕ} → countCause s (length w) (length o) ≡ None → outOfLimits s ≡ None → Leaves s (lateCause s) w o r p q → Writes s w o r p q
+  pub later : {r : Written} {p q : List ℕ} → lengthsCause s (length w) (length o) ≡ None → outOfLimits s ≡ None → Leaves s (lateCause s) w o r p q → Writes s w o r p q
   later n e h = writes s ty w o (leaves-same (then-limits None n e) h)

@@ -3,17 +3,17 @@ ghost use mathlib.Core.Path.{_≡_};
 ghost use lib.ListN.{length};
 ghost use Rattle.refusals.specs.declared.Cause.the-variants.{None};
 ghost use Rattle.sheet.specs.Input.{inputOf};
-ghost use Rattle.writer_input_causes.specs.CountCause.{countCause};
+ghost use Rattle.writer_causes.specs.LengthsCause.{lengthsCause};
 ghost use Rattle.writer.specs.Written.{writtenOf, Writes};
-ghost use Rattle.writer.specs.Steps.{lateCause, Leaves};
-use mesh::Mesh;
+ghost use Rattle.writer.specs.Steps.{LeavesLate};
+use mesh::Solid;
 use newtonian::Vector;
 use refusals::Cause;
 use refusals::Refusal;
-use writer_body_causes::check_body;
-use writer_input_causes::count_cause;
-use writer_input_causes::number_cause;
-use writer_input_causes::sheet_length;
+use sheet_body::check_body;
+use writer_causes::lengths_cause;
+use writer_causes::number_cause;
+use writer_causes::sheet_length;
 
 // What `write_sheet` answers: the sheet's length, or the refusal.
 pub enum Written {
@@ -30,7 +30,7 @@ fn answer(cause: Cause, size: usize) -> Written
     }
 }
 
-// Writes the sheet of a body whose counts and numbers are within the limits.
+// Writes the sheet of a body whose counts and lengths are within the limits; the numbers are judged by the caller.
 fn write_counted(
     kind: u32,
     verts: &[f64],
@@ -41,12 +41,12 @@ fn write_counted(
     work: &mut [u32],
     out: &mut [u8],
 ) -> Written
-    requires { ⌜ countCause (inputOf kind (now verts) (now faces) magnetisation ambient (now stations)) (length (now work)) (length (now out)) ≡ None ⌝ }
-    ensures { λ r. ⌜ Leaves (inputOf kind (now (verts .entry)) (now (faces .entry)) magnetisation ambient (now (stations .entry))) (lateCause (inputOf kind (now (verts .entry)) (now (faces .entry)) magnetisation ambient (now (stations .entry)))) (now (work .entry)) (now (out .entry)) r (now (work .exit)) (now (out .exit)) ⌝ }
+    requires { ⌜ lengthsCause (inputOf kind (now verts) (now faces) magnetisation ambient (now stations)) (length (now work)) (length (now out)) ≡ None ⌝ }
+    ensures { λ r. ⌜ LeavesLate (inputOf kind (now (verts .entry)) (now (faces .entry)) magnetisation ambient (now (stations .entry))) (now (work .entry)) (now (out .entry)) r (now (work .exit)) (now (out .exit)) ⌝ }
 {
     match check_body(kind, verts, faces, work) {
-        Mesh::Refused(r) => Written::Refused(r),
-        Mesh::Volume(volume) => {
+        Solid::Refused(r) => Written::Refused(r),
+        Solid::Volume(volume) => {
             let n = faces.len();
             let size = sheet_length(kind, verts.len() / 3, faces.len() / 3, stations.len() / 3);
             let cause = writer_put_sheet::put_sheet(
@@ -79,7 +79,7 @@ pub fn write_sheet(
 ) -> Written
     ensures { λ r. ⌜ Writes (inputOf kind (now (verts .entry)) (now (faces .entry)) magnetisation ambient (now (stations .entry))) (now (work .entry)) (now (out .entry)) r (now (work .exit)) (now (out .exit)) ⌝ }
 {
-    let counts = count_cause(
+    let counts = lengths_cause(
         kind,
         verts.len(),
         faces.len(),

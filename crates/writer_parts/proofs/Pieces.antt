@@ -22,7 +22,7 @@ use Rattle.sheet_layout.proofs.Stores.{sets-all}
 use Rattle.sheet_layout.proofs.Lists.{pack-one, pack-append}
 use Rattle.sheet_layout.proofs.Files.{then-part}
 use Rattle.sheet.specs.Bytes.{trailerLength}
-use Rattle.sheet.specs.OrderAndMates.{mates-length}
+use Rattle.sheet_laws.specs.OrderAndMates.{mates-length}
 use Rattle.writer_parts.specs.PartsPut.{frontParts, trailerParts, finished}
 
 pub bits-length : (xs : List Float) → length (bits xs) ≡ length xs

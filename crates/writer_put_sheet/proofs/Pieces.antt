@@ -18,7 +18,7 @@ use Rattle.sheet_rows.specs.Kinds.{rowWidth}
 use Rattle.sheet.specs.Input.{SheetInput, vertexCount, faceCount, stationCount}
 use Rattle.sheet.specs.Bytes.{trailerLength, pointer, rows, parts, sheetBytes}
 use Rattle.sheet.specs.Writer.{stationCause}
-use Rattle.sheet.specs.OrderAndMates.{mates-length}
+use Rattle.sheet_laws.specs.OrderAndMates.{mates-length}
 use Rattle.writer_parts.specs.PartsPut.{frontParts, trailerParts, finished}
 use Rattle.writer_parts.proofs.Pieces.{bits-length, front-size}
 use Rattle.writer_rows.proofs.RowLaws.{numbers-so-far}

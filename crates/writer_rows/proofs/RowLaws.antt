@@ -23,7 +23,7 @@ use Rattle.sheet_rows.specs.declared.Row.{Row}
 use Rattle.sheet.specs.Input.{SheetInput, stationCount, rowAt}
 use Rattle.sheet.specs.Bytes.{numbersOf, rows}
 use Rattle.sheet.specs.Writer.{stationCause}
-use Rattle.sheet.specs.Reading.{rows-length}
+use Rattle.sheet_laws.specs.Reading.{rows-length}
 use Rattle.writer_rows.specs.Rows.{RowsPut}
 
 pub not-none : (r : Refusal) → Refused r ≡ None → ⊥

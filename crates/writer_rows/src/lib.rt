@@ -2,7 +2,7 @@
 ghost use Prim.Native.Nat.{_+_, _*_, _/_, _≤_, _<_};
 ghost use lib.ListN.{length};
 ghost use Rattle.sheet_rows.specs.Kinds.{rowWidth, maxStations};
-ghost use Rattle.sheet_rows.specs.Known.{Known};
+ghost use Rattle.sheet_rows.specs.BodyWithCenter.{BodyWithCenter};
 ghost use Rattle.sheet.specs.Input.{inputOf};
 ghost use Rattle.writer_rows.specs.Rows.{RowPut, RowsPut};
 use newtonian::Vector;
@@ -24,7 +24,7 @@ fn put_row(
     out: &mut [u8],
     at: usize,
 ) -> Cause
-    requires { ⌜ Known kind c (now verts) (now faces) × (i < length (now stations) / 3) × (at + 8 * rowWidth kind ≤ length (now out)) ⌝ }
+    requires { ⌜ BodyWithCenter kind c (now verts) (now faces) × (i < length (now stations) / 3) × (at + 8 * rowWidth kind ≤ length (now out)) ⌝ }
     ensures { λ r. ⌜ RowPut (inputOf kind (now (verts .entry)) (now (faces .entry)) magnetisation ambient (now (stations .entry))) i at r (now (out .entry)) (now (out .exit)) ⌝ }
 {
     let p = mesh::surface::vertex(stations, i);
@@ -66,7 +66,7 @@ pub fn put_rows(
     out: &mut [u8],
     at: usize,
 ) -> Cause
-    requires { ⌜ Known kind c (now verts) (now faces) × (length (now stations) / 3 ≤ maxStations) × (at + 8 * rowWidth kind * (length (now stations) / 3) ≤ length (now out)) ⌝ }
+    requires { ⌜ BodyWithCenter kind c (now verts) (now faces) × (length (now stations) / 3 ≤ maxStations) × (at + 8 * rowWidth kind * (length (now stations) / 3) ≤ length (now out)) ⌝ }
     ensures { λ r. ⌜ RowsPut (inputOf kind (now (verts .entry)) (now (faces .entry)) magnetisation ambient (now (stations .entry))) at r (now (out .entry)) (now (out .exit)) ⌝ }
 {
     let n = stations.len() / 3;

@@ -4,12 +4,18 @@ use Rattle.anomaly.specs.Body.{bodyOf}
 use Rattle.anomaly.proofs.body_of.Statement.{statement}
 use Rattle.anomaly.proofs.body_of.Tie as tie
 
+abbrev trace : tie.After-row-times → tie.After-trace
+trace c = c .before .before .before .before
+
+abbrev row-times : tie.After-struct-known3 → tie.After-row-times
+row-times c = c .before .before .before .before .before
+
 returns : tie.Need-returns
 unfolding bodyOf
 returns c =
     simp (
-      c .before .before .before .before .before .before .before .before .before .trace .ensures,
-      c .before .before .before .before .before .row-times .ensures,
+      trace (row-times c) .trace .ensures,
+      row-times c .row-times .ensures,
       c .before .before .before .row-times2 .ensures,
       c .before .row-times3 .ensures,
     )

@@ -6,7 +6,7 @@ use Rattle.anomaly_cylinder.proofs.cylinder_inside.Tie as tie
 
 returns : tie.Need-returns
 unfolding cylinderInside
-returns c = simp (c .before .before .times .ensures, c .before .times2 .ensures, c .times3 .ensures)
+returns c = simp (c .before .before .times-vector .ensures, c .before .times-vector2 .ensures, c .times-vector3 .ensures)
 
 pub cylinder-inside-spec : {M : Type 1} → statement M
 cylinder-inside-spec =

@@ -4,12 +4,15 @@ use Rattle.anomaly_cylinder.specs.Cylinder.{cylinderOf}
 use Rattle.anomaly_cylinder.proofs.cylinder_of.Statement.{statement}
 use Rattle.anomaly_cylinder.proofs.cylinder_of.Tie as tie
 
+abbrev dot : tie.After-body-of → tie.After-dot
+dot c = c .before .before .before .before
+
 returns : tie.Need-returns
 unfolding cylinderOf
 returns c =
     simp (
-      c .before .before .before .before .before .difference .ensures,
-      c .before .before .before .before .dot .ensures,
+      dot c .before .difference .ensures,
+      dot c .dot .ensures,
       c .before .before .before .minus-times .ensures,
       c .before .before .projector .ensures,
       c .before .cylinder-hessian .ensures,

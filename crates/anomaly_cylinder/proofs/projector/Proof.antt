@@ -4,11 +4,14 @@ use Rattle.anomaly_cylinder.specs.Cylinder.{projector}
 use Rattle.anomaly_cylinder.proofs.projector.Statement.{statement}
 use Rattle.anomaly_cylinder.proofs.projector.Tie as tie
 
+abbrev diagonal : tie.After-minus-times3 → tie.After-diagonal
+diagonal c = c .before .before .before .before .before .before
+
 returns : tie.Need-returns
 unfolding projector
 returns c =
     simp (
-      c .before .before .before .before .before .before .diagonal .ensures,
+      diagonal c .diagonal .ensures,
       c .before .before .minus-times .ensures,
       c .before .minus-times2 .ensures,
       c .minus-times3 .ensures,

@@ -15,7 +15,7 @@ returns-2 c =
     let above = c .before in
     let root = above .before in
     let below = root .before in
-    simp (below .before .if1 .left, below .if2 .taken, root .root .ensures, above .rc-above .ensures, c .times .ensures)
+    simp (below .before .if1 .left, below .if2 .taken, root .root .ensures, above .rc-above .ensures, c .times-integral .ensures)
 
 returns-3 : tie.Need-returns-3
 unfolding rc

@@ -1,36 +1,70 @@
 -- `checker::check_sheet` meets its contract: the verdict is that of the first cause, and what is accepted is right. Assumes nothing.
-use mathlib.Core.Path.{_≡_, sym, _∙_}
+use mathlib.Core.Path.{_≡_, sym, ap, _∙_}
 use denote.Ref.{now}
 use borrow.Author.Needs.{needs}
+use Rattle.refusals.specs.declared.Cause.the-variants.{None}
 use Rattle.sheet.specs.declared.Verdict.the-variants.{Accepted}
-use Rattle.sheet.specs.Checker.{verdict}
-use Rattle.sheet.specs.Demand3.{accepted-right}
+use Rattle.sheet.specs.Checker.{openingCause, verdict}
+use Rattle.sheet_laws.specs.Demand3.{accepted-right}
+use Rattle.sheet_readers.specs.Opened.{Opened}
 use Rattle.sheet_readers.proofs.Opening.{opened}
-use Rattle.checker.proofs.Staged.{opening-none, refusing, accepting}
+use Rattle.checker_stations.specs.declared.Outcome.{Outcome}
+use Rattle.checker.proofs.Staged.{opening-refused, found, refusing, accepting}
 use Rattle.checker.proofs.check_sheet.Statement.{statement}
 use Rattle.checker.proofs.check_sheet.Tie as tie
 
+-- where the call begins
+abbrev start : tie.After-enum-told → tie.Start
+start c = c .before .before .before .before
+
+-- 16, 1 and 2 do not hold
+none : (c : tie.After-enum-told) → openingCause (now (start c .args .sheet)) ≡ None
+none c = sym (c .before .before .opening-cause .ensures) ∙ c .enum-told .given .1
+
+known : (c : tie.After-enum-told) → Opened (now (start c .args .sheet))
+known c = opened (now (start c .args .sheet)) (none c)
+
 returns : tie.Need-returns
 returns c =
-    let b = now (c .before .before .before .before .before .args .sheet) in
-    let e = refusing b _ (sym (c .before .before .before .checker-cause .ensures) ∙ c .before .cause .given .1) in
-    (e, λ k n q. accepted-right b (λ i. c .before .before .before .before .shared-slice-known .given i .fits) k n (sym e ∙ q))
+    let o = c .before .before .before in
+    let b = now (o .before .before .args .sheet) in
+    let e = refusing b _ (opening-refused b _ (sym (o .opening-cause .ensures) ∙ c .before .opening .given .1)) in
+    (e, λ k n q. accepted-right b (λ i. o .before .shared-slice-known .given i .fits) k n (sym e ∙ q))
 
-kind-requires : tie.Need-kind-requires
-kind-requires c κs =
-    let b = now (c .before .before .before .before .args .sheet) in
-    opened b (opening-none b (sym (c .before .before .checker-cause .ensures) ∙ c .enum-told .given .1)) .trailer
-
-stations-requires : tie.Need-stations-requires
-stations-requires c κs =
-    let b = now (c .before .before .before .before .before .args .sheet) in
-    opened b (opening-none b (sym (c .before .before .before .checker-cause .ensures) ∙ c .before .enum-told .given .1)) .trailer
+-- the outcome's cause
+abbrev in-room : tie.After-enum-told2 → tie.After-in-smallest-room
+in-room c = c .before .before
 
 returns-2 : tie.Need-returns-2
 returns-2 c =
-    let b = now (c .before .before .before .before .before .before .args .sheet) in
-    let e : Accepted (c .before .kind .result) (c .stations .result) ≡ verdict b = rw (c .before .kind .ensures, c .stations .ensures) (accepting b (sym (c .before .before .before .before .checker-cause .ensures) ∙ c .before .before .enum-told .given .1)) in
-    (e, λ k n q. accepted-right b (λ i. c .before .before .before .before .before .shared-slice-known .given i .fits) k n (sym e ∙ q))
+    let r = c .before .before .before in
+    let told = r .before in
+    let b = now (start told .args .sheet) in
+    let e = refusing b _ (found b (none told) (sym (ap (λ (o : Outcome). o .cause) (r .in-smallest-room .ensures)) ∙ c .before .cause .given .1)) in
+    (e, λ k n q. accepted-right b (λ i. told .before .before .before .shared-slice-known .given i .fits) k n (sym e ∙ q))
+
+returns-3 : tie.Need-returns-3
+returns-3 c =
+    let free = c .before .before in
+    let r = in-room free in
+    let told = r .before in
+    let b = now (start told .args .sheet) in
+    let none-found = found b (none told) (sym (ap (λ (o : Outcome). o .cause) (r .in-smallest-room .ensures)) ∙ free .enum-told2 .given .1) in
+    let e : Accepted (c .before .kind .result) (c .stations .result) ≡ verdict b = rw (c .before .kind .ensures, c .stations .ensures) (accepting b none-found) in
+    (e, λ k n q. accepted-right b (λ i. told .before .before .before .shared-slice-known .given i .fits) k n (sym e ∙ q))
 
 pub check-sheet-spec : {M : Type 1} → statement M
-check-sheet-spec = tie.close (tie.spec (λ c κs. search needs) (λ c. search needs) returns (λ c. search needs) kind-requires stations-requires returns-2)
+check-sheet-spec =
+    tie.close
+    (tie.spec
+    (λ c κs. search needs)
+    (λ c. search needs)
+    returns
+    (λ c. search needs)
+    (λ c κs. known c)
+    (λ c. search needs)
+    returns-2
+    (λ c. search needs)
+    (λ c κs. known (in-room c .before) .trailer)
+    (λ c κs. known (in-room (c .before) .before) .trailer)
+    returns-3)

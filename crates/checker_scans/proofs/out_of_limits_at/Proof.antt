@@ -25,6 +25,10 @@ Inv-loop sheet at n i₀ i = (i ≤ n) × (firstOf i (λ j. unless (inLimits (do
 abbrev μ-loop : tie.MeasureT-loop
 μ-loop sheet at n i₀ i = n - i
 
+-- at the head of the loop
+abbrev at-loop : tie.After-within-limits Inv-loop μ-loop → tie.At-loop Inv-loop μ-loop
+at-loop c = c .before .before .before
+
 size : (n : ℕ) (b : List ℕ) (at : ℕ) → length (doubles (unpack 8 n b at)) ≡ n
 size n b at = simp (length-map, unpack-length)
 
@@ -39,19 +43,19 @@ within-limits-requires c κs = tt
 returns : tie.Need-returns Inv-loop μ-loop
 unfolding outOfLimits
 returns c =
-    let a = c .before .before .before .before .before .before .args in
+    let a = at-loop (c .before) .before .before .args in
     let v = doubles (unpack 8 (a .n) (now (a .sheet)) (a .at)) in
-    let i = c .before .before .before .before .loop .i in
-    rw (size (a .n) (now (a .sheet)) (a .at)) (scan-stop (a .n) (inLimits v) (λ j. OutOfLimits) i (omega arith) (c .before .before .before .before .loop .inv .1)
+    let i = at-loop (c .before) .loop .i in
+    rw (size (a .n) (now (a .sheet)) (a .at)) (scan-stop (a .n) (inLimits v) (λ j. OutOfLimits) i (omega arith) (at-loop (c .before) .loop .inv .1)
     (ap withinLimits (double-at (now (a .sheet)) (a .at) (a .n) i (omega arith) ∙ sym (c .before .before .f64-at .ensures)) ∙ sym (c .before .within-limits .ensures) ∙ not-true _ (c .if1 .taken)))
 
 loop-again : tie.Need-loop-again Inv-loop μ-loop
 loop-again c =
-    let a = c .before .before .before .before .before .before .args in
+    let a = at-loop (c .before) .before .before .args in
     let v = doubles (unpack 8 (a .n) (now (a .sheet)) (a .at)) in
-    let i = c .before .before .before .before .loop .i in (
+    let i = at-loop (c .before) .loop .i in (
       omega arith,
-      scan-more (a .n) (inLimits v) (λ j. OutOfLimits) i (c .before .before .before .before .loop .inv .1)
+      scan-more (a .n) (inLimits v) (λ j. OutOfLimits) i (at-loop (c .before) .loop .inv .1)
           (ap withinLimits (double-at (now (a .sheet)) (a .at) (a .n) i (omega arith) ∙ sym (c .before .before .f64-at .ensures)) ∙ sym (c .before .within-limits .ensures) ∙ not-false _ (c .if1 .left)),
     )
 

@@ -15,6 +15,14 @@ Inv-loop sheet at xs i₀ i = (i ≤ length xs) × ((j : ℕ) → j < i → Same
 abbrev μ-loop : tie.MeasureT-loop
 μ-loop sheet at xs i₀ i = length xs - i
 
+-- where the call begins
+abbrev entry : tie.After-loop Inv-loop μ-loop → tie.Start Inv-loop μ-loop
+entry c = c .before .before .before .before
+
+-- at the head of the loop
+abbrev at-loop : tie.After-to-bits Inv-loop μ-loop → tie.At-loop Inv-loop μ-loop
+at-loop c = c .before .before .before .before
+
 no : {j : ℕ} → j < 0 → ⊥
 no {j} h = omega arith
 
@@ -26,15 +34,15 @@ to-bits-requires c κs = tt
 
 returns : tie.Need-returns Inv-loop μ-loop
 returns c =
-    let start = c .before .before .before .before .before .before .before .before in
-    sym (other (now (start .args .sheet)) (now (start .args .xs)) (start .args .at) (c .before .before .before .before .before .loop .i) (omega arith) (λ e. c .if1 .taken (c .before .before .before .u64-at .ensures ∙ e ∙ sym (c .before .to-bits .ensures))))
+    let start = at-loop (c .before) .before .before .before in
+    sym (other (now (start .args .sheet)) (now (start .args .xs)) (start .args .at) (at-loop (c .before) .loop .i) (omega arith) (λ e. c .if1 .taken (c .before .before .before .u64-at .ensures ∙ e ∙ sym (c .before .to-bits .ensures))))
 
 loop-again : tie.Need-loop-again Inv-loop μ-loop
-loop-again c = (omega arith, below-more _ _ (c .before .before .before .before .before .loop .inv .1) (sym (c .before .before .before .u64-at .ensures) ∙ c .if1 .left ∙ c .before .to-bits .ensures))
+loop-again c = (omega arith, below-more _ _ (at-loop (c .before) .loop .inv .1) (sym (c .before .before .before .u64-at .ensures) ∙ c .if1 .left ∙ c .before .to-bits .ensures))
 
 returns-2 : tie.Need-returns-2 Inv-loop μ-loop
 returns-2 c =
-    sym (same (now (c .before .before .before .before .args .sheet)) (now (c .before .before .before .before .args .xs)) (c .before .before .before .before .args .at) (λ i l. c .before .loop .inv .1 i (omega arith)))
+    sym (same (now (entry c .args .sheet)) (now (entry c .args .xs)) (entry c .args .at) (λ i l. c .before .loop .inv .1 i (omega arith)))
 
 pub same-numbers-spec : {M : Type 1} → statement M
 same-numbers-spec = tie.close (tie.spec Inv-loop μ-loop loop-holds (λ c. omega arith) (λ c. omega arith) (λ c κs. omega arith) (λ c. omega arith) (λ c. omega arith) to-bits-requires returns (λ c. omega arith) (λ c. omega arith) loop-again returns-2)

@@ -4,11 +4,14 @@ use Rattle.demagnetisation.specs.Ellipsoid.{ellipsoidFactors}
 use Rattle.demagnetisation.proofs.ellipsoid_factors.Statement.{statement}
 use Rattle.demagnetisation.proofs.ellipsoid_factors.Tie as tie
 
+abbrev vector-within-limits : tie.After-factors-of → tie.After-vector-within-limits
+vector-within-limits c = c .before .before .before .before
+
 returns : tie.Need-returns
 unfolding ellipsoidFactors
 returns c =
     simp (
-      ← c .before .before .before .before .vector-within-limits .ensures,
+      ← vector-within-limits c .vector-within-limits .ensures,
       c .before .before .before .if1 .taken,
       ← c .before .before .all-positive .ensures,
       c .before .if2 .taken,

@@ -4,12 +4,18 @@ use Rattle.demagnetisation.specs.Magnetisation.{magnetisationOf}
 use Rattle.demagnetisation.proofs.magnetisation_of.Statement.{statement}
 use Rattle.demagnetisation.proofs.magnetisation_of.Tie as tie
 
+abbrev diagonal : tie.After-equation → tie.After-diagonal
+diagonal c = c .before .before .before .before .before .before .before
+
+abbrev equation : tie.After-gauss → tie.After-equation
+equation c = c .before .before .before .before
+
 returns : tie.Need-returns
 unfolding magnetisationOf
 returns c =
     simp (
-      c .before .before .before .before .before .before .before .before .before .before .before .diagonal .ensures,
-      c .before .before .before .before .equation .ensures,
+      diagonal (equation c) .diagonal .ensures,
+      equation c .equation .ensures,
       c .before .before .before .equation2 .ensures,
       c .before .before .equation3 .ensures,
       c .before .rows-of .ensures,

@@ -10,34 +10,38 @@ use Rattle.legendre.proofs.Entries.{entries, square}
 use Rattle.legendre.proofs.gauss_legendre.Statement.{statement}
 use Rattle.legendre.proofs.gauss_legendre.Tie as tie
 
+-- where the call begins
+abbrev start : tie.After-t2 → tie.Start
+start c = c .before .before .before .before .before
+
 returns : tie.Need-returns
 returns c = c .refused .ensures ∙ sym (refused _ (inl (omega arith)))
 
 returns-2 : tie.Need-returns-2
 returns-2 c = c .refused2 .ensures ∙ sym (refused _ (inr (omega arith)))
 
-mul-row : tie.Need-mul-row
-mul-row c = let s = square (c .before .before .before .args .order) (omega arith) (omega arith) in omega (arith, entries)
+mul-padded : tie.Need-mul-padded
+mul-padded c = let s = square (c .before .before .before .args .order) (omega arith) (omega arith) in omega (arith, entries)
 
-sub-row : tie.Need-sub-row
-sub-row c = let s = square (c .before .before .before .args .order) (omega arith) (omega arith) in s .0
+sub-padded : tie.Need-sub-padded
+sub-padded c = let s = square (c .before .before .before .args .order) (omega arith) (omega arith) in s .0
 
-row-requires : tie.Need-row-requires
+padded-requires : tie.Need-padded-requires
 unfolding table
-row-requires c κs = let s = square (c .before .before .before .args .order) (omega arith) (omega arith) in (refl, omega arith, omega arith)
+padded-requires c κs = let s = square (c .before .before .before .args .order) (omega arith) (omega arith) in (refl, omega arith, omega arith)
 
-mul-row-2 : tie.Need-mul-row-2
-mul-row-2 c = let s = square (c .before .before .before .before .before .args .order) (omega arith) (omega arith) in omega (arith, entries)
+mul-padded-2 : tie.Need-mul-padded-2
+mul-padded-2 c = let s = square (start c .args .order) (omega arith) (omega arith) in omega (arith, entries)
 
-row-requires-2 : tie.Need-row-requires-2
+padded-requires-2 : tie.Need-padded-requires-2
 unfolding table
-row-requires-2 c κs = let s = square (c .before .before .before .before .before .args .order) (omega arith) (omega arith) in (refl, omega arith, s .1)
+padded-requires-2 c κs = let s = square (start c .args .order) (omega arith) (omega arith) in (refl, omega arith, s .1)
 
 returns-3 : tie.Need-returns-3
 unfolding node weight
 returns-3 c =
-    simp (c .before .before .row .ensures, c .row2 .ensures)
-    (sym (accepted (c .before .before .before .before .before .before .args .order) (omega arith) (omega arith)))
+    simp (c .before .before .padded .ensures, c .padded2 .ensures)
+    (sym (accepted (start (c .before) .args .order) (omega arith) (omega arith)))
 
 pub gauss-legendre-spec : {M : Type 1} → statement M
 gauss-legendre-spec =
@@ -47,9 +51,9 @@ gauss-legendre-spec =
     returns
     (λ c κs. search needs)
     returns-2
-    mul-row
-    sub-row
-    row-requires
-    mul-row-2
-    row-requires-2
+    mul-padded
+    sub-padded
+    padded-requires
+    mul-padded-2
+    padded-requires-2
     returns-3)

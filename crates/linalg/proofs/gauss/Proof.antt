@@ -4,11 +4,14 @@ use Rattle.linalg.specs.Gauss.{gauss}
 use Rattle.linalg.proofs.gauss.Statement.{statement}
 use Rattle.linalg.proofs.gauss.Tie as tie
 
+abbrev pivot-x : tie.After-back-substituted → tie.After-pivot-x
+pivot-x c = c .before .before .before .before
+
 returns : tie.Need-returns
 unfolding gauss
 returns c =
     simp (
-      c .before .before .before .before .pivot-x .ensures,
+      pivot-x c .pivot-x .ensures,
       c .before .before .before .eliminate-x .ensures,
       c .before .before .pivot-y .ensures,
       c .before .eliminate-y .ensures,

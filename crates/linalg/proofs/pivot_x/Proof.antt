@@ -4,11 +4,17 @@ use Rattle.linalg.specs.Gauss.{pivotX}
 use Rattle.linalg.proofs.pivot_x.Statement.{statement}
 use Rattle.linalg.proofs.pivot_x.Tie as tie
 
+abbrev takes : tie.After-takes2 → tie.After-takes
+takes c = c .before .before
+
+abbrev takes-from-rows-of3 : tie.After-rows-of3 → tie.After-takes
+takes-from-rows-of3 c = c .before .before .before .before
+
 returns : tie.Need-returns
 unfolding pivotX
 returns c =
     simp (
-      ← c .before .before .before .before .takes .ensures,
+      ← takes (c .before .before) .takes .ensures,
       c .before .before .before .if1 .taken,
       ← c .before .before .takes2 .ensures,
       c .before .if2 .taken,
@@ -19,7 +25,7 @@ returns-2 : tie.Need-returns-2
 unfolding pivotX
 returns-2 c =
     simp (
-      ← c .before .before .before .before .takes .ensures,
+      ← takes (c .before .before) .takes .ensures,
       c .before .before .before .if1 .taken,
       ← c .before .before .takes2 .ensures,
       c .before .if2 .left,
@@ -30,7 +36,7 @@ returns-3 : tie.Need-returns-3
 unfolding pivotX
 returns-3 c =
     simp (
-      ← c .before .before .before .before .takes .ensures,
+      ← takes-from-rows-of3 c .takes .ensures,
       c .before .before .before .if1 .left,
       ← c .before .before .takes3 .ensures,
       c .before .if3 .taken,

@@ -6,6 +6,9 @@ use Rattle.mesh.proofs.Counts.{refuse-vertices, refuse-triples, many-ve
 use Rattle.mesh.proofs.count_cause.Statement.{statement}
 use Rattle.mesh.proofs.count_cause.Tie as tie
 
+abbrev else1 : tie.Else4 → tie.Else1
+else1 c = c .before .before .before
+
 returns : tie.Need-returns
 returns c =
     let st = c .before in
@@ -31,14 +34,14 @@ returns-4 c =
 
 returns-5 : tie.Need-returns-5
 returns-5 c =
-    let a = c .before .before .before .before in
+    let a = else1 (c .before) in
     let st = a .before in
     too-short (now (st .args .verts)) (now (st .args .faces)) (st .args .room) (a .if1 .left) (c .before .before .before .if2 .left) (c .before .before .if3 .left)
     (c .before .if4 .left) (c .if5 .taken)
 
 returns-6 : tie.Need-returns-6
 returns-6 c =
-    let a = c .before .before .before .before in
+    let a = else1 (c .before) in
     let st = a .before in
     sym (count-none (now (st .args .verts)) (now (st .args .faces)) (st .args .room)
     (record { coordinates = a .if1 .left; corners = c .before .before .before .if2 .left; vertices = c .before .before .if3 .left; faces = c .before .if4 .left; room = c .if5 .left }))

@@ -1,28 +1,38 @@
 -- `mesh_check::check_order` meets its contract: the causes 5 to 8 in order. Assumes nothing.
 use native.Mathlib.Omega.{arith}
 use borrow.Author.Needs.{needs}
-use Rattle.mesh.specs.Check.{facesCause, orderCause}
+use Rattle.mesh.specs.Check.{orderCause}
 use Rattle.mesh_check.proofs.check_order.Statement.{statement}
 use Rattle.mesh_check.proofs.check_order.Tie as tie
+
+-- where the call begins
+abbrev start : tie.After-open-edge-arg2 → tie.Start
+start c = c .before .before .before .before .before .before .before .before .before .before
+
+abbrev flipped-edge : tie.After-open-edge → tie.After-flipped-edge
+flipped-edge c = c .before .before .before .before .before
+
+abbrev open-edge : tie.After-slice-known4 → tie.After-open-edge
+open-edge c = c .before .before .before .before
 
 returns : tie.Need-returns
 unfolding orderCause
 returns c = simp (← c .before .before .before .flipped-edge .ensures, c .before .flipped .given .1)
 
 open-edge-requires : tie.Need-open-edge-requires
-open-edge-requires c κs = let st = c .before .before .before .before .before .before .before .before .before .before in (st .pre .0 .faces, st .pre .1, (λ i l. omega (arith, st .pre .0 .inside i l, st .pre .2)), st .pre .3)
+open-edge-requires c κs = let st = start c in (st .pre .0 .faces, st .pre .1, (λ i l. omega (arith, st .pre .0 .inside i l, st .pre .2)), st .pre .3)
 
 returns-2 : tie.Need-returns-2
 unfolding orderCause
 returns-2 c =
-    let a = c .before .before .before .before .before .before .before in
-    simp (← a .before .before .before .before .before .flipped-edge .ensures, a .before .before .before .enum-told .given .1, ← a .open-edge .ensures, c .before .«open» .given .1)
+    let a = open-edge (c .before .before .before) in
+    simp (← flipped-edge a .flipped-edge .ensures, a .before .before .before .enum-told .given .1, ← a .open-edge .ensures, c .before .«open» .given .1)
 
 returns-3 : tie.Need-returns-3
-unfolding orderCause facesCause
+unfolding orderCause
 returns-3 c =
-    let a = c .before .before .before .before .before .before .before in
-    simp (← a .before .before .before .before .before .flipped-edge .ensures, a .before .before .before .enum-told .given .1, ← a .open-edge .ensures, c .before .enum-told2 .given .1) (c .check-faces .ensures)
+    let a = open-edge (c .before .before .before) in
+    simp (← flipped-edge a .flipped-edge .ensures, a .before .before .before .enum-told .given .1, ← a .open-edge .ensures, c .before .enum-told2 .given .1) (c .check-faces .ensures)
 
 pub check-order-spec : {M : Type 1} → statement M
 check-order-spec =

@@ -12,27 +12,34 @@ use Rattle.refusals.specs.declared.Cause.the-variants.{None, Refused}
 use Rattle.refusals.specs.Causes.{orElse}
 use Rattle.mesh_orders.specs.Order.{orderList}
 use Rattle.mesh.specs.Surface.{volume, vertexCount}
-use Rattle.mesh.specs.Check.{noSuchVertex, orderCause, surfaceCause, meshOf, workAfter}
-use Rattle.mesh.specs.CauseLaws.{body, none-vertex}
+use Rattle.mesh.specs.Check.{noSuchVertex, orderCause, surfaceCause, solidOf, workAfter}
+use Rattle.mesh.specs.CauseLaws.{is-body, none-vertex}
 use Rattle.mesh_check.proofs.Work.{early-vertex, work-early, work-order}
 use Rattle.mesh_check.proofs.check_surface.Statement.{statement}
 use Rattle.mesh_check.proofs.check_surface.Tie as tie
 
+-- where the call begins
+abbrev entry : tie.After-no-such-vertex → tie.Start
+entry c = c .before .before .before .before
+
+abbrev enum-told : tie.After-slice-known2 → tie.After-enum-told
+enum-told c = c .before .before .before .before
+
 returns : tie.Need-returns
-unfolding surfaceCause orderCause
+unfolding surfaceCause
 returns c =
-    let st = c .before .before .before .before .before .before .before in
+    let st = entry (c .before .before .before) in
     let v = now (st .args .verts) in
     let f = now (st .args .faces) in
     let w = now (st .args .work) in
     let r = c .before .missing .given .0 .0 in
     let e : noSuchVertex (vertexCount v) f ≡ Refused r = sym (c .before .before .before .no-such-vertex .ensures) ∙ c .before .missing .given .1 in
     let s : surfaceCause v f ≡ Refused r = ap (λ (d : Cause). orElse d (orderCause v f (orderList f))) e in
-    (sym (ap (λ (d : Cause). meshOf d (volume v f)) s), sym (ap (λ (d : Cause). workAfter d f w) s ∙ work-early f w r (early-vertex (vertexCount v) f r e)))
+    (sym (ap (λ (d : Cause). solidOf d (volume v f)) s), sym (ap (λ (d : Cause). workAfter d f w) s ∙ work-early f w r (early-vertex v f r e)))
 
 -- where the call begins
 abbrev start : tie.After-enum-told → tie.Start
-start c = c .before .before .before .before .before .before
+start c = entry (c .before .before)
 
 -- no corner without a vertex
 named : (c : tie.After-enum-told) → noSuchVertex (vertexCount (now (start c .args .verts))) (now (start c .args .faces)) ≡ None
@@ -44,18 +51,18 @@ by-size-requires c κs =
     let v = now (st .args .verts) in
     let f = now (st .args .faces) in
     let w = now (st .args .work) in
-    (body v f (length w) (st .pre) (none-vertex v f (named (c .before))), length-take-le (length f) w (st .pre .room), st .pre .vertices)
+    (is-body v f (length w) (st .pre) (none-vertex v f (named (c .before))), length-take-le (length f) w (st .pre .room), st .pre .vertices)
 
 returns-2 : tie.Need-returns-2
-unfolding surfaceCause orderCause
+unfolding surfaceCause
 returns-2 c =
-    let st = start (c .before .before .before .before) in
+    let st = start (enum-told c) in
     let v = now (st .args .verts) in
     let f = now (st .args .faces) in
     let w = now (st .args .work) in
     let a = c .before .before .by-size .ensures in
-    let e : surfaceCause v f ≡ orderCause v f (orderList f) = ap (λ (d : Cause). orElse d (orderCause v f (orderList f))) (named (c .before .before .before .before)) in (
-      a .0 ∙ sym (ap (λ (d : Cause). meshOf d (volume v f)) e),
+    let e : surfaceCause v f ≡ orderCause v f (orderList f) = ap (λ (d : Cause). orElse d (orderCause v f (orderList f))) (named (enum-told c)) in (
+      a .0 ∙ sym (ap (λ (d : Cause). solidOf d (volume v f)) e),
       ap (λ (l : List ℕ). l ++ drop (length f) w) (a .1) ∙ sym (ap (λ (d : Cause). workAfter d f w) e ∙ work-order f w v),
     )
 

@@ -11,15 +11,39 @@ returns c = simp (sym (c .before .before .before .count-cause .ensures) ∙ c .b
 
 returns-2 : tie.Need-returns-2
 unfolding givenCause
-returns-2 c = simp (sym (c .before .before .before .before .before .before .count-cause .ensures) ∙ c .before .before .before .before .enum-told .given .1, sym (c .before .before .before .out-of-limits .ensures) ∙ c .before .numbers .given .1)
+returns-2 c =
+    let scan = c .before .before .before in
+    let counts = scan .before in
+    simp (
+      sym (counts .before .before .count-cause .ensures) ∙ counts .enum-told .given .1,
+      sym (scan .out-of-limits .ensures) ∙ c .before .numbers .given .1,
+    )
 
 returns-3 : tie.Need-returns-3
 unfolding givenCause
-returns-3 c = simp (sym (c .before .before .before .before .before .before .before .count-cause .ensures) ∙ c .before .before .before .before .before .enum-told .given .1, sym (c .before .before .before .before .out-of-limits .ensures) ∙ c .before .before .enum-told2 .given .1, ← c .before .vector-within-limits .ensures, c .if1 .taken)
+returns-3 c =
+    let numbers = c .before .before in
+    let scan = numbers .before .before in
+    let counts = scan .before in
+    simp (
+      sym (counts .before .before .count-cause .ensures) ∙ counts .enum-told .given .1,
+      sym (scan .out-of-limits .ensures) ∙ numbers .enum-told2 .given .1,
+      ← c .before .vector-within-limits .ensures,
+      c .if1 .taken,
+    )
 
 returns-4 : tie.Need-returns-4
 unfolding givenCause
-returns-4 c = simp (sym (c .before .before .before .before .before .before .before .count-cause .ensures) ∙ c .before .before .before .before .before .enum-told .given .1, sym (c .before .before .before .before .out-of-limits .ensures) ∙ c .before .before .enum-told2 .given .1, ← c .before .vector-within-limits .ensures, c .if1 .left)
+returns-4 c =
+    let numbers = c .before .before in
+    let scan = numbers .before .before in
+    let counts = scan .before in
+    simp (
+      sym (counts .before .before .count-cause .ensures) ∙ counts .enum-told .given .1,
+      sym (scan .out-of-limits .ensures) ∙ numbers .enum-told2 .given .1,
+      ← c .before .vector-within-limits .ensures,
+      c .if1 .left,
+    )
 
 pub given-cause-spec : {M : Type 1} → statement M
 given-cause-spec =

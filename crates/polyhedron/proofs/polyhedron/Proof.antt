@@ -9,25 +9,39 @@ use Rattle.polyhedron.proofs.polyhedron.Statement.{statement}
 use Rattle.polyhedron.proofs.polyhedron.Tie as tie
 
 -- where the call begins
+abbrev entry : tie.After-given-cause → tie.Start
+entry c = c .before .before .before .before
+
+abbrev check-surface : tie.After-slice-known2 → tie.After-check-surface
+check-surface c = c .before .before
+
+-- where the call begins
 abbrev start : tie.After-enum-told → tie.Start
-start c = c .before .before .before .before .before .before
+start c = entry (c .before .before)
 
 -- where nothing given is refused
 abbrev told : tie.After-enum-told2 → tie.After-enum-told
-told c = c .before .before .before .before .before .before
+told c = check-surface (c .before .before) .before .before
 
 -- the mesh is accepted, and work starts with its order list
-accepted : (c : tie.After-enum-told2) → Success (start (told c) .args .station) (now (start (told c) .args .verts)) (now (start (told c) .args .faces)) (now (start (told c) .args .work)) (c .before .before .before .before .check-surface .last .1 .1 .0)
+accepted :
+    (c : tie.After-enum-told2) →
+    Success
+    (start (told c) .args .station)
+    (now (start (told c) .args .verts))
+    (now (start (told c) .args .faces))
+    (now (start (told c) .args .work))
+    (check-surface (c .before .before) .check-surface .last .1 .1 .0)
 accepted c =
     let t = told c in
     let st = start t in
-    let k = c .before .before .before .before .check-surface in
+    let k = check-surface (c .before .before) .check-surface in
     success (st .args .station) (now (st .args .verts)) (now (st .args .faces)) (now (st .args .work)) (sym (t .before .before .given-cause .ensures) ∙ t .enum-told .given .1)
     (k .last .1 .1 .0) (k .ensures .1) (c .enum-told2 .given .0 .0) (sym (k .ensures .0) ∙ c .enum-told2 .given .1)
 
 returns : tie.Need-returns
 returns c =
-    let st = c .before .before .before .before .before .before .before in
+    let st = entry (c .before .before .before) in
     not-given (st .args .station) (now (st .args .verts)) (now (st .args .faces)) (now (st .args .work)) (c .before .given .given .0 .0) (sym (c .before .before .before .given-cause .ensures) ∙ c .before .given .given .1)
 
 check-surface-requires : tie.Need-check-surface-requires
@@ -37,9 +51,9 @@ check-surface-requires c κs =
 
 returns-2 : tie.Need-returns-2
 returns-2 c =
-    let t = c .before .before .before .before .before .before .before in
+    let t = check-surface (c .before .before .before) .before .before in
     let st = start t in
-    let k = c .before .before .before .before .before .check-surface in
+    let k = check-surface (c .before .before .before) .check-surface in
     not-accepted (st .args .station) (now (st .args .verts)) (now (st .args .faces)) (now (st .args .work)) (sym (t .before .before .given-cause .ensures) ∙ t .enum-told .given .1)
     (k .last .1 .1 .0) (k .ensures .1) (c .before .surface .given .0 .0) (sym (k .ensures .0) ∙ c .before .surface .given .1)
 

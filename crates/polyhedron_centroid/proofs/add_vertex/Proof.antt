@@ -6,7 +6,7 @@ use Rattle.polyhedron_centroid.proofs.add_vertex.Tie as tie
 
 returns : tie.Need-returns
 unfolding addVertex
-returns c = simp (c .before .before .before .before .before .before .before .vertex .ensures)
+returns c = simp (c .before .add-vectors .ensures, c .before .before .vertex .ensures)
 
 pub add-vertex-spec : {M : Type 1} → statement M
-add-vertex-spec = tie.close (tie.spec (λ c κs. search needs) (λ c. search needs) returns)
+add-vertex-spec = tie.close (tie.spec (λ c κs. search needs) (λ c κs. search needs) (λ c. search needs) returns)

@@ -6,7 +6,7 @@ use Rattle.polyhedron_centroid.proofs.centroid.Tie as tie
 
 returns : tie.Need-returns
 unfolding centroid
-returns c = simp (c .mean .ensures, c .before .tally-used .ensures)
+returns c = simp (c .tally-mean .ensures, c .before .tally-used .ensures)
 
 pub centroid-spec : {M : Type 1} → statement M
 centroid-spec = tie.close (tie.spec (λ c κs. search needs) (λ c κs. search needs) returns)

@@ -21,36 +21,44 @@ Inv-loop c verts faces order m₀ next₀ i₀ m next i = (i ≤ length order) �
 abbrev μ-loop : tie.MeasureT-loop
 μ-loop c verts faces order m₀ next₀ i₀ m next i = length order - i
 
+-- where the call begins
+abbrev start : tie.At-loop Inv-loop μ-loop → tie.Start Inv-loop μ-loop
+start c = c .before .before .before .before
+
+-- at the head of the loop
+abbrev at-loop : tie.After-start Inv-loop μ-loop → tie.At-loop Inv-loop μ-loop
+at-loop c = c .before .before .before
+
 loop-holds : tie.Need-loop-holds Inv-loop μ-loop
 loop-holds c = (omega arith, begin (now (c .before .before .before .args .faces)) (farther (c .before .before .before .args .c) (now (c .before .before .before .args .verts))) 0·0, omega arith)
 
 start-requires : tie.Need-start-requires Inv-loop μ-loop
 start-requires c κs =
-    let s = c .before .before .before .before .before .before in
+    let s = start (c .before .before) in
     let q = placed (now (s .args .faces)) (now (s .args .order)) (s .pre .1) (c .before .before .loop .i) (omega arith) in
     (s .pre .0 .faces .triples, q .1)
 
 farther-requires : tie.Need-farther-requires Inv-loop μ-loop
 farther-requires c κs =
-    let s = c .before .before .before .before .before .before .before .before in
+    let s = start (at-loop (c .before)) in
     let f = now (s .args .faces) in
-    let i = c .before .before .before .before .loop .i in
+    let i = at-loop (c .before) .loop .i in
     let q = placed f (now (s .args .order)) (s .pre .1) i (omega arith) in
     omega (arith, c .before .start .ensures, q .2, met-below f (vertexCount (now (s .args .verts))) (s .pre .0 .inside) i (q .0))
 
 add-next : tie.Need-add-next Inv-loop μ-loop
 add-next c =
-    let s = c .before .before .before .before .before .before .before .before .before in
-    record { fits = omega (arith, c .before .before .start .ensures, small-from (now (s .args .faces)) (s .pre .0 .faces) (getD (now (s .args .order)) (c .before .before .before .before .before .loop .i) 0)) }
+    let s = start (at-loop (c .before .before)) in
+    record { fits = omega (arith, c .before .before .start .ensures, small-from (now (s .args .faces)) (s .pre .0 .faces) (getD (now (s .args .order)) (at-loop (c .before .before) .loop .i) 0)) }
 
 loop-again : tie.Need-loop-again Inv-loop μ-loop
 loop-again c =
-    let s = c .before .before .before .before .before .before .before .before in
+    let s = start (at-loop (c .before)) in
     let f = now (s .args .faces) in
     let v = now (s .args .verts) in
     let step = farther (s .args .c) v in
     let ok = s .pre .0 .faces in
-    let l = c .before .before .before .before .loop in
+    let l = at-loop (c .before) .loop in
     let q = placed f (now (s .args .order)) (s .pre .1) (l .i) (omega arith) in
     let x : c .before .start .result ≡ met f (l .i) = c .before .start .ensures ∙ q .2 in
     ⊎-elim
@@ -70,7 +78,7 @@ loop-again c =
 
 returns : tie.Need-returns Inv-loop μ-loop
 returns c =
-    let s = c .before .before .before .before .before in
+    let s = start (c .before) in
     let f = now (s .args .faces) in
     let v = now (s .args .verts) in
     let l = c .before .loop in

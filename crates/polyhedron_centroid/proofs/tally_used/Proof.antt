@@ -21,10 +21,18 @@ Inv-loop verts faces order t₀ next₀ i₀ t next i = (i ≤ length order) × 
 abbrev μ-loop : tie.MeasureT-loop
 μ-loop verts faces order t₀ next₀ i₀ t next i = length order - i
 
+-- where the call begins
+abbrev start : tie.After-no-tally Inv-loop μ-loop → tie.Start Inv-loop μ-loop
+start c = c .before .before .before .before
+
+-- at the head of the loop
+abbrev at-loop : tie.After-start Inv-loop μ-loop → tie.At-loop Inv-loop μ-loop
+at-loop c = c .before .before .before
+
 loop-holds : tie.Need-loop-holds Inv-loop μ-loop
 unfolding noTally
 loop-holds c =
-    let s = c .before .before .before .before in
+    let s = start c in
     let f = now (s .args .faces) in
     let v = now (s .args .verts) in
     let e = c .no-tally .ensures in
@@ -32,31 +40,31 @@ loop-holds c =
 
 start-requires : tie.Need-start-requires Inv-loop μ-loop
 start-requires c κs =
-    let s = c .before .before .before .before .before .before .before in
+    let s = start (c .before .before .before) in
     let q = placed (now (s .args .faces)) (now (s .args .order)) (s .pre .1) (c .before .before .loop .i) (omega arith) in
     (s .pre .0 .faces .triples, q .1)
 
 add-vertex-requires : tie.Need-add-vertex-requires Inv-loop μ-loop
 add-vertex-requires c κs =
-    let s = c .before .before .before .before .before .before .before .before .before in
+    let s = start (at-loop (c .before) .before) in
     let f = now (s .args .faces) in
-    let i = c .before .before .before .before .loop .i in
+    let i = at-loop (c .before) .loop .i in
     let q = placed f (now (s .args .order)) (s .pre .1) i (omega arith) in
-    (omega (arith, c .before .start .ensures, q .2, met-below f (vertexCount (now (s .args .verts))) (s .pre .0 .inside) i (q .0)), omega (arith, q .0, s .pre .0 .faces .few, c .before .before .before .before .loop .inv .3))
+    (omega (arith, c .before .start .ensures, q .2, met-below f (vertexCount (now (s .args .verts))) (s .pre .0 .inside) i (q .0)), omega (arith, q .0, s .pre .0 .faces .few, at-loop (c .before) .loop .inv .3))
 
 add-next : tie.Need-add-next Inv-loop μ-loop
 add-next c =
-    let s = c .before .before .before .before .before .before .before .before .before .before in
-    record { fits = omega (arith, c .before .before .start .ensures, small-from (now (s .args .faces)) (s .pre .0 .faces) (getD (now (s .args .order)) (c .before .before .before .before .before .loop .i) 0)) }
+    let s = start (at-loop (c .before .before) .before) in
+    record { fits = omega (arith, c .before .before .start .ensures, small-from (now (s .args .faces)) (s .pre .0 .faces) (getD (now (s .args .order)) (at-loop (c .before .before) .loop .i) 0)) }
 
 loop-again : tie.Need-loop-again Inv-loop μ-loop
 unfolding addVertex
 loop-again c =
-    let s = c .before .before .before .before .before .before .before .before .before in
+    let s = start (at-loop (c .before) .before) in
     let f = now (s .args .faces) in
     let v = now (s .args .verts) in
     let ok = s .pre .0 .faces in
-    let l = c .before .before .before .before .loop in
+    let l = at-loop (c .before) .loop in
     let q = placed f (now (s .args .order)) (s .pre .1) (l .i) (omega arith) in
     let x : c .before .start .result ≡ met f (l .i) = c .before .start .ensures ∙ q .2 in
     ⊎-elim
@@ -79,7 +87,7 @@ loop-again c =
 returns : tie.Need-returns Inv-loop μ-loop
 unfolding tallyUsed
 returns c =
-    let s = c .before .before .before .before .before .before in
+    let s = start (c .before .before) in
     let f = now (s .args .faces) in
     let v = now (s .args .verts) in
     let l = c .before .loop in

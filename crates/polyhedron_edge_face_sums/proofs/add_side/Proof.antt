@@ -9,6 +9,9 @@ use Rattle.polyhedron_edge_terms.specs.EdgeTerms.{logarithm}
 use Rattle.polyhedron_edge_face_sums.proofs.add_side.Statement.{statement}
 use Rattle.polyhedron_edge_face_sums.proofs.add_side.Tie as tie
 
+abbrev edge-key : tie.After-add-dyad → tie.After-edge-key
+edge-key c = c .before .before .before .before
+
 returns : tie.Need-returns
 returns c =
     let st = c .before .before .before .before .before in
@@ -22,14 +25,14 @@ returns c =
 
 returns-2 : tie.Need-returns-2
 returns-2 c =
-    let tested = c .before .before .before .before .before .before in
+    let tested = edge-key c .before .before in
     let st = tested .before .before .before in
     let a = st .args in (
       c .add-dyad .ensures .0,
       λ x y s p q h.
-          let t : finite (logarithm x y (a .e .length)) ≡ false = simp (← p, ← tested .is-finite .ensures) (c .before .before .before .before .before .if1 .left) in
+          let t : finite (logarithm x y (a .e .length)) ≡ false = simp (← p, ← tested .is-finite .ensures) (edge-key c .before .if1 .left) in
           side-through (a .n) (a .e) x y s (c .add-dyad .last .0) (c .add-dyad .last .1 .0) t (record { field = a .run .field; count = c .add-dyad .result })
-          (h .field) (simp (c .before .before .before .before .edge-key .ensures, c .before .before .before .dyad .ensures) at (c .add-dyad .ensures .1 (s .edges) (h .edges))),
+          (h .field) (simp (edge-key c .edge-key .ensures, c .before .before .before .dyad .ensures) at (c .add-dyad .ensures .1 (s .edges) (h .edges))),
     )
 
 pub add-side-spec : {M : Type 1} → statement M

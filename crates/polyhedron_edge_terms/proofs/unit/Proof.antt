@@ -6,7 +6,7 @@ use Rattle.polyhedron_edge_terms.proofs.unit.Tie as tie
 
 returns : tie.Need-returns
 unfolding unit
-returns c = simp (c .before .before .before .norm .ensures)
+returns c = simp (c .over .ensures, c .before .norm .ensures)
 
 pub unit-spec : {M : Type 1} → statement M
-unit-spec = tie.close (tie.spec (λ c κs. search needs) returns)
+unit-spec = tie.close (tie.spec (λ c κs. search needs) (λ c κs. search needs) returns)

@@ -6,7 +6,7 @@ use Rattle.polyhedron_neumaier.proofs.total_vector.Tie as tie
 
 returns : tie.Need-returns
 unfolding totalVector
-returns c = simp (c .total3 .ensures, c .before .total2 .ensures, c .before .before .total .ensures)
+returns c = simp (c .total-at3 .ensures, c .before .total-at2 .ensures, c .before .before .total-at .ensures)
 
 pub total-vector-spec : {M : Type 1} → statement M
 total-vector-spec =

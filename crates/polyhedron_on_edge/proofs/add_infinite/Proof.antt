@@ -7,13 +7,13 @@ use borrow.Author.Needs.{needs}
 use denote.Ref.{now}
 use lib.ListN.{drop}
 use Rattle.polyhedron_on_edge.proofs.Adding.{infinite-end, infinite-more}
-use Rattle.polyhedron_on_edge.specs.Block.{Holds}
+use Rattle.polyhedron_on_edge.specs.Block.{HoldsEdges}
 use Rattle.polyhedron_on_edge.specs.OnEdge.{Edge, addInfinite}
 use Rattle.polyhedron_on_edge.proofs.add_infinite.Statement.{statement}
 use Rattle.polyhedron_on_edge.proofs.add_infinite.Tie as tie
 
 abbrev Inv-loop : tie.InvT-loop
-Inv-loop dyads count sums₀ i₀ sums i = (i ≤ count) × ((es : List Edge) (keys : List ℕ) → Holds es keys dyads count → addInfinite (drop i es) sums ≡ addInfinite es sums₀)
+Inv-loop dyads count sums₀ i₀ sums i = (i ≤ count) × ((es : List Edge) (keys : List ℕ) → HoldsEdges es keys dyads count → addInfinite (drop i es) sums ≡ addInfinite es sums₀)
 
 abbrev μ-loop : tie.MeasureT-loop
 μ-loop dyads count sums₀ i₀ sums i = count - i
@@ -36,4 +36,15 @@ returns c =
     λ es keys h. sym (infinite-end es keys (now (st .args .dyads)) (st .args .count) h (st .pre) (l .sums)) ∙ (rw e at (l .inv .1 es keys h))
 
 pub add-infinite-spec : {M : Type 1} → statement M
-add-infinite-spec = tie.close (tie.spec Inv-loop μ-loop (λ c. (search needs, λ es keys h. refl)) (λ c κs. omega (arith, c .before .before .pre)) (λ c κs. search needs) (λ c. search needs) (λ c. search needs) loop-again returns)
+add-infinite-spec =
+    tie.close
+    (tie.spec
+    Inv-loop
+    μ-loop
+    (λ c. (search needs, λ es keys h. refl))
+    (λ c κs. omega (arith, c .before .before .pre))
+    (λ c κs. search needs)
+    (λ c. search needs)
+    (λ c. search needs)
+    loop-again
+    returns)

@@ -30,4 +30,16 @@ returns-2 c =
     record { upto = omega arith; before = λ j h. l .inv .1 j (omega arith); here = λ h. absurd (omega arith) }
 
 pub find-spec : {M : Type 1} → statement M
-find-spec = tie.close (tie.spec Inv-loop μ-loop (λ c. (search needs, λ j h. absurd (omega arith))) (λ c. search needs) (λ c. search needs) returns (λ c. search needs) (λ c. search needs) loop-again returns-2)
+find-spec =
+    tie.close
+    (tie.spec
+    Inv-loop
+    μ-loop
+    (λ c. (search needs, λ j h. absurd (omega arith)))
+    (λ c. search needs)
+    (λ c. search needs)
+    returns
+    (λ c. search needs)
+    (λ c. search needs)
+    loop-again
+    returns-2)

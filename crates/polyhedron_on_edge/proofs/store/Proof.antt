@@ -4,7 +4,7 @@ use Prim.Native.Nat.{_-_, _≤_}
 use native.Mathlib.Omega.{arith}
 use borrow.Author.Needs.{needs}
 use Rattle.newtonian.specs.Fold.{Fold, fold-more}
-use Rattle.polyhedron_on_edge.specs.Block.{storeNumber, stored}
+use Rattle.polyhedron_on_edge.specs.Block.{storeNumber, storedDyad}
 use Rattle.polyhedron_on_edge.proofs.store.Statement.{statement}
 use Rattle.polyhedron_on_edge.proofs.store.Tie as tie
 
@@ -19,10 +19,25 @@ unfolding Fold
 loop-holds c = (search needs, refl)
 
 returns : tie.Need-returns Inv-loop μ-loop
-unfolding stored
+unfolding storedDyad
 returns c =
     let e : c .before .loop .q ≡ 9 = omega arith in
     cc
 
 pub store-spec : {M : Type 1} → statement M
-store-spec = tie.close (tie.spec Inv-loop μ-loop loop-holds (λ c. search needs) (λ c. search needs) (λ c. search needs) (λ c. search needs) (λ c. search needs) (λ c. search needs) (λ c. search needs) (λ c. search needs) (λ c. (search needs, rw fold-more (cc))) returns)
+store-spec =
+    tie.close
+    (tie.spec
+    Inv-loop
+    μ-loop
+    loop-holds
+    (λ c. search needs)
+    (λ c. search needs)
+    (λ c. search needs)
+    (λ c. search needs)
+    (λ c. search needs)
+    (λ c. search needs)
+    (λ c. search needs)
+    (λ c. search needs)
+    (λ c. (search needs, rw fold-more (cc)))
+    returns)

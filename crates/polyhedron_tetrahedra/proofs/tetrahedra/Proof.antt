@@ -4,10 +4,13 @@ use Rattle.polyhedron_tetrahedra.specs.Tetrahedra.{tetrahedra}
 use Rattle.polyhedron_tetrahedra.proofs.tetrahedra.Statement.{statement}
 use Rattle.polyhedron_tetrahedra.proofs.tetrahedra.Tie as tie
 
+abbrev mapped-rule : tie.After-weights2 → tie.After-mapped-rule
+mapped-rule c = c .before .before .before .before
+
 face-sums-requires : tie.Need-face-sums-requires
 face-sums-requires c κs =
-    let e = c .before .before .before .before .mapped-rule .ensures in
-    (c .before .before .before .before .before .before .before .pre, (simp e, simp e))
+    let e = mapped-rule c .mapped-rule .ensures in
+    (mapped-rule c .before .before .before .pre, (simp e, simp e))
 
 returns : tie.Need-returns
 unfolding tetrahedra

@@ -8,13 +8,13 @@ use lib.Ieee.{nan}
 use borrow.Author.Needs.{needs}
 use Rattle.newtonian.specs.Vectors.{zeroField}
 use Rattle.newtonian.specs.Fold.{Fold, fold-none, fold-more}
-use Rattle.polyhedron_tetrahedra.specs.Tetrahedra.{points, mappedNode, mappedWeight, layer, tetrahedronField}
+use Rattle.polyhedron_tetrahedra.specs.Tetrahedra.{points, mappedNode, mappedWeight, tetrahedronLayer, tetrahedronField}
 use Rattle.polyhedron_tetrahedra.proofs.Nodes.{rule-node, rule-weight}
 use Rattle.polyhedron_tetrahedra.proofs.tetrahedron_field.Statement.{statement}
 use Rattle.polyhedron_tetrahedra.proofs.tetrahedron_field.Tie as tie
 
 abbrev Inv-loop : tie.InvT-loop
-Inv-loop p a s nodes weights sums₀ i₀ sums i = (i ≤ points) × (sums ≡ Fold i (layer p a s) zeroField)
+Inv-loop p a s nodes weights sums₀ i₀ sums i = (i ≤ points) × (sums ≡ Fold i (tetrahedronLayer p a s) zeroField)
 
 abbrev μ-loop : tie.MeasureT-loop
 μ-loop p a s nodes weights sums₀ i₀ sums i = points - i
@@ -31,7 +31,7 @@ loop-again c =
     let q = start .pre in
     let x : getD (start .args .nodes .now) k nan ≡ mappedNode k = rw (q .0) (rule-node k h) in
     let y : getD (start .args .weights .now) k nan ≡ mappedWeight k = rw (q .1) (rule-weight k h) in
-    (omega arith, rw fold-more (simp (c .add-layer .ensures, x, y, b .loop .inv .1)))
+    (omega arith, rw fold-more (simp (c .add-tetrahedron-layer .ensures, x, y, b .loop .inv .1)))
 
 returns : tie.Need-returns Inv-loop μ-loop
 unfolding tetrahedronField

@@ -23,8 +23,9 @@ pieces-at t = and 0 pieces-kinds.ps (is 0 pieces-kinds.ps μ-pieces t) pieces.Pr
 abbrev pieces-below : ℕ → In 0 pieces-kinds.ps
 pieces-below t = and 0 pieces-kinds.ps (falls 0 pieces-kinds.ps _<_ μ-pieces t) pieces.Pre
 
-pub +pieces-spec : {M : Type 1} → statement M
-+pieces-spec = close μ-pieces λ t. pieces-lts.spec (
+-- what the calls ask and tell
+abbrev claims : ℕ → pieces-lts.Claims
+claims t = (
   piece-of-reads.Asked,
   piece-of-reads.Learnt,
   pieces-below t,
@@ -32,21 +33,30 @@ pub +pieces-spec : {M : Type 1} → statement M
   join-reads.Asked,
   join-reads.Learnt,
 )
+
+abbrev piece-of : (t : ℕ) → pieces-lts.After-lower-max (claims t) (pieces-at t) pieces.Post → pieces-lts.After-piece-of (claims t) (pieces-at t) pieces.Post
+piece-of t c = c .before .before
+
+abbrev lower-max : (t : ℕ) → pieces-lts.After-join (claims t) (pieces-at t) pieces.Post → pieces-lts.After-lower-max (claims t) (pieces-at t) pieces.Post
+lower-max t c = c .before .before .before .before .before
+
+pub +pieces-spec : {M : Type 1} → statement M
++pieces-spec = close μ-pieces λ t. pieces-lts.spec (claims t)
     (pieces-at t)
     pieces.Post
     (λ c κs. search needs)
     (λ c. search needs)
     (λ c. search needs)
     (λ c.
-    let b = c .before .before .before .before in
+    let b = piece-of t (c .before .before) in
     let a = b .before .args in
-    let v = c .before .before .upper .given in
+    let v = c .before .before .lower-max .given in
     let e = ends (a .rule) (a .i) (a .p) (a .lo) (a .hi) (v .0 .0) (v .0 .1 .0) (sym (b .piece-of .ensures) ∙ v .1) in
     simp (c .if1 .taken) (sym e))
     (λ c. search needs)
-    (λ c κs. (omega (arith, c .before .before .before .before .before .pre .0), tt))
+    (λ c κs. (omega (arith, piece-of t (c .before .before) .before .pre .0), tt))
     (λ c. search needs)
-    (λ c κs. (omega (arith, c .before .before .before .before .before .before .pre .0), tt))
+    (λ c κs. (omega (arith, piece-of t (c .before .before .before) .before .pre .0), tt))
     (λ c κs. search needs)
     (λ c.
     let b = c .before .before .before in
@@ -54,8 +64,8 @@ pub +pieces-spec : {M : Type 1} → statement M
     let v = c .before .f .given in
     sym (whole (a .rule) (a .i) (a .p) (a .lo) (a .hi) (a .n) (v .0 .0) (sym (b .piece-of .ensures) ∙ v .1)))
     (λ c.
-    let b = c .before .before .before .before .before .before .before in
+    let b = piece-of t (lower-max t c) in
     let a = b .before .args in
-    let v = c .before .before .before .before .before .upper .given in
+    let v = lower-max t c .lower-max .given in
     let e = halved (a .rule) (a .i) (a .p) (a .lo) (a .hi) (a .n) (v .0 .0) (v .0 .1 .0) (c .before .before .before .if1 .left) (sym (b .piece-of .ensures) ∙ v .1) in
     simp (c .join .ensures, c .before .pieces2 .ensures, c .before .before .pieces .ensures) (sym e))

@@ -7,14 +7,15 @@ use Rattle.prism_corner_sums.proofs.corner_at.Tie as tie
 returns : tie.Need-returns
 unfolding cornerAt
 returns c =
-    let root = c .before .before .before .before .before .before in
+    let two = c .before .before .before .before in
+    let root = two .before .before in
     simp (
-      c .angle3 .ensures,
-      c .before .angle2 .ensures,
-      c .before .before .angle .ensures,
-      c .before .before .before .logarithm3 .ensures,
-      c .before .before .before .before .logarithm2 .ensures,
-      c .before .before .before .before .before .logarithm .ensures,
+      c .corner-angle3 .ensures,
+      c .before .corner-angle2 .ensures,
+      c .before .before .corner-angle .ensures,
+      c .before .before .before .corner-logarithm3 .ensures,
+      two .corner-logarithm2 .ensures,
+      two .before .corner-logarithm .ensures,
       root .root .ensures,
       root .before .coordinate3 .ensures,
       root .before .before .coordinate2 .ensures,

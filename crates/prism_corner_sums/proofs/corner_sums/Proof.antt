@@ -15,12 +15,16 @@ Inv-loop p lo hi f₀ k₀ f k = (k ≤ 8) × (f ≡ Fold k (addCorner p lo hi) 
 abbrev μ-loop : tie.MeasureT-loop
 μ-loop p lo hi f₀ k₀ f k = 8 - k
 
+-- at the head of the loop
+abbrev at-loop : tie.After-add-corner-terms Inv-loop μ-loop → tie.At-loop Inv-loop μ-loop
+at-loop c = c .before .before .before .before
+
 loop-holds : tie.Need-loop-holds Inv-loop μ-loop
 loop-holds c = (search needs, rw fold-none (c .zero-field .ensures))
 
 loop-again : tie.Need-loop-again Inv-loop μ-loop
 loop-again c =
-    (search needs, rw fold-more (simp (c .add-terms .ensures, c .before .corner-at .ensures, c .before .before .sign .ensures, c .before .before .before .before .loop .inv .1)))
+    (search needs, rw fold-more (simp (c .add-corner-terms .ensures, c .before .corner-at .ensures, c .before .before .sign .ensures, at-loop c .loop .inv .1)))
 
 returns : tie.Need-returns Inv-loop μ-loop
 unfolding cornerSums

@@ -6,7 +6,7 @@ use Rattle.prism_corner_sums.proofs.gradient_term.Tie as tie
 
 returns : tie.Need-returns
 unfolding gradientTerm
-returns c = simp (c .times3 .ensures, c .before .times2 .ensures, c .before .before .times .ensures)
+returns c = simp (c .zero-or-times3 .ensures, c .before .zero-or-times2 .ensures, c .before .before .zero-or-times .ensures)
 
 pub gradient-term-spec : {M : Type 1} → statement M
 gradient-term-spec = tie.close (tie.spec (λ c κs. search needs) (λ c κs. search needs) (λ c κs. search needs) returns)

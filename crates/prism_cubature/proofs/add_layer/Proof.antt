@@ -18,11 +18,15 @@ Inv-loop p lo hi m ny wy n nz wz w x h sums₀ j₀ sums j = (j ≤ m) × (sums 
 abbrev μ-loop : tie.MeasureT-loop
 μ-loop p lo hi m ny wy n nz wz w x h sums₀ j₀ sums j = m - j
 
+-- where the call begins
+abbrev start : tie.After-add-line-arg Inv-loop μ-loop → tie.Start Inv-loop μ-loop
+start c = c .before .before .before .before .before .before
+
 loop-holds : tie.Need-loop-holds Inv-loop μ-loop
 loop-holds c = (search needs, rw fold-none)
 
 add-line-requires : tie.Need-add-line-requires Inv-loop μ-loop
-add-line-requires c κs = c .before .before .before .before .before .before .pre .1
+add-line-requires c κs = start c .pre .1
 
 loop-again : tie.Need-loop-again Inv-loop μ-loop
 loop-again c =

@@ -19,12 +19,18 @@ Inv-loop p lo hi l m n rule-x ny wy nz wz h sums₀ i₀ sums i = (i ≤ l) × (
 abbrev μ-loop : tie.MeasureT-loop
 μ-loop p lo hi l m n rule-x ny wy nz wz h sums₀ i₀ sums i = l - i
 
+abbrev gauss-legendre3 : tie.At-loop Inv-loop μ-loop → tie.After-gauss-legendre3 Inv-loop μ-loop
+gauss-legendre3 c = c .before .before .before .before .before .before .before
+
+abbrev after-offset : tie.After-wz2 Inv-loop μ-loop → tie.After-offset Inv-loop μ-loop
+after-offset c = c .before .before .before .before .before
+
 loop-holds : tie.Need-loop-holds Inv-loop μ-loop
 loop-holds c = (search needs, rw fold-none (c .zero-field .ensures))
 
 add-layer-requires : tie.Need-add-layer-requires Inv-loop μ-loop
 add-layer-requires c κs =
-    let z = c .before .before .before .before .before .before .before .before .before .before .before .before .before .before .before in
+    let z = gauss-legendre3 (after-offset c .before .before .before) in
     let y = z .before in
     let a = y .before .before in (
       (a .pre .1, simp (y .gauss-legendre2 .ensures), simp (y .gauss-legendre2 .ensures)),
@@ -36,7 +42,7 @@ loop-again c =
     let offset = c .before .before .before .before .before .before in
     let t = offset .before .before in
     let b = t .before in
-    let g = b .before .before .before .before .before .before .before .before .before in
+    let g = gauss-legendre3 b .before .before in
     let a = g .before in
     let i = b .loop .i in
     let l = a .args .l in
@@ -48,13 +54,13 @@ loop-again c =
 
 add-i : tie.Need-add-i Inv-loop μ-loop
 add-i c =
-    let turn = c .before .before .before .before .before .before .before .before in
-    record { fits = omega (arith, turn .loop-test .taken, turn .before .before .before .before .before .before .before .before .before .before .before .pre .0) }
+    let turn = after-offset (c .before) .before .before in
+    record { fits = omega (arith, turn .loop-test .taken, gauss-legendre3 (turn .before) .before .before .before .pre .0) }
 
 returns : tie.Need-returns Inv-loop μ-loop
 unfolding cubature
 returns c =
-    let e : c .before .loop .i ≡ c .before .before .before .before .before .before .before .before .before .before .before .args .l = omega (arith, c .loop-test .left, c .before .loop .inv .0) in
+    let e : c .before .loop .i ≡ gauss-legendre3 (c .before) .before .before .before .args .l = omega (arith, c .loop-test .left, c .before .loop .inv .0) in
     rw e at (c .before .loop .inv .1)
 
 pub cubature-spec : {M : Type 1} → statement M

@@ -5,7 +5,7 @@ use native.Mathlib.Omega.{arith}
 use borrow.Author.Tests.{le-leb, lt-leb}
 use lib.Dec.{lit<}
 use Rattle.prism_pieces.proofs.Orders.{product-fits}
-use Rattle.prism_pieces.specs.Bisection.{affordable}
+use Rattle.prism_pieces.specs.Choice.{affordable}
 use Rattle.prism_pieces.proofs.affordable.Statement.{statement}
 use Rattle.prism_pieces.proofs.affordable.Tie as tie
 

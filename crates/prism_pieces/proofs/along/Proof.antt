@@ -1,6 +1,6 @@
 -- `prism_pieces::along` meets its contract. Assumes nothing.
 use borrow.Author.Needs.{needs}
-use Rattle.prism_pieces.specs.Bisection.{along}
+use Rattle.prism_pieces.specs.Choice.{along}
 use Rattle.prism_pieces.proofs.along.Statement.{statement}
 use Rattle.prism_pieces.proofs.along.Tie as tie
 

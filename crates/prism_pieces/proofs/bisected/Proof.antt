@@ -1,6 +1,6 @@
 -- `prism_pieces::bisected` meets its contract. Assumes nothing.
 use borrow.Author.Needs.{needs}
-use Rattle.prism_pieces.specs.Bisection.{bisected}
+use Rattle.prism_pieces.specs.Choice.{bisected}
 use Rattle.prism_pieces.proofs.bisected.Statement.{statement}
 use Rattle.prism_pieces.proofs.bisected.Tie as tie
 

@@ -6,7 +6,7 @@ use native.Mathlib.Omega.{arith}
 use borrow.Author.Needs.{needs}
 use Rattle.legendre.specs.GaussLegendre.{maxOrder}
 use Rattle.newtonian.specs.Fold.{Fold, fold-none, fold-more}
-use Rattle.prism_pieces.specs.Bisection.{countBelow, ceiling}
+use Rattle.prism_pieces.specs.Choice.{countBelow, ceiling}
 use Rattle.prism_pieces.proofs.ceiling.Statement.{statement}
 use Rattle.prism_pieces.proofs.ceiling.Tie as tie
 

@@ -1,6 +1,6 @@
 -- `prism_pieces::distance` meets its contract. Assumes nothing.
 use borrow.Author.Needs.{needs}
-use Rattle.prism_pieces.specs.Bisection.{distance}
+use Rattle.prism_pieces.specs.Choice.{distance}
 use Rattle.prism_pieces.proofs.distance.Statement.{statement}
 use Rattle.prism_pieces.proofs.distance.Tie as tie
 

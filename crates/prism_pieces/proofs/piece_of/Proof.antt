@@ -1,6 +1,6 @@
 -- `prism_pieces::piece_of` meets its contract. Assumes nothing.
 use borrow.Author.Needs.{needs}
-use Rattle.prism_pieces.specs.Bisection.{pieceOf}
+use Rattle.prism_pieces.specs.Choice.{pieceOf}
 use Rattle.prism_pieces.proofs.piece_of.Statement.{statement}
 use Rattle.prism_pieces.proofs.piece_of.Tie as tie
 
@@ -8,7 +8,7 @@ returns : tie.Need-returns
 unfolding pieceOf
 returns c =
     simp (
-      c .outside .ensures,
+      c .piece-outside .ensures,
       c .before .if1 .taken,
       ← c .before .before .distance .ensures,
     )

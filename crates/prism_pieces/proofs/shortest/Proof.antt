@@ -1,7 +1,7 @@
 -- `prism_pieces::shortest` meets its contract. Assumes nothing.
 use lib.Ieee.{nanBits}
 use borrow.Author.Needs.{needs}
-use Rattle.prism_pieces.specs.Bisection.{shortest}
+use Rattle.prism_pieces.specs.Choice.{shortest}
 use Rattle.prism_pieces.proofs.shortest.Statement.{statement}
 use Rattle.prism_pieces.proofs.shortest.Tie as tie
 

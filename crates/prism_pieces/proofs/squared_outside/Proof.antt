@@ -1,6 +1,6 @@
 -- `prism_pieces::squared_outside` meets its contract. Assumes nothing.
 use borrow.Author.Needs.{needs}
-use Rattle.prism_pieces.specs.Bisection.{squaredOutside}
+use Rattle.prism_pieces.specs.Choice.{squaredOutside}
 use Rattle.prism_pieces.proofs.squared_outside.Statement.{statement}
 use Rattle.prism_pieces.proofs.squared_outside.Tie as tie
 

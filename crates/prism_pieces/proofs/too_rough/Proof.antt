@@ -1,6 +1,6 @@
 -- `prism_pieces::too_rough` meets its contract. Assumes nothing.
 use borrow.Author.Needs.{needs}
-use Rattle.prism_pieces.specs.Bisection.{tooRough}
+use Rattle.prism_pieces.specs.Choice.{tooRough}
 use Rattle.prism_pieces.proofs.too_rough.Statement.{statement}
 use Rattle.prism_pieces.proofs.too_rough.Tie as tie
 

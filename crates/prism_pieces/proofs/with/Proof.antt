@@ -1,6 +1,6 @@
 -- `prism_pieces::with` meets its contract. Assumes nothing.
 use borrow.Author.Needs.{needs}
-use Rattle.prism_pieces.specs.Bisection.{with}
+use Rattle.prism_pieces.specs.Choice.{with}
 use Rattle.prism_pieces.proofs.with.Statement.{statement}
 use Rattle.prism_pieces.proofs.with.Tie as tie
 

@@ -120,4 +120,4 @@ row-spec 𝓤 H 𝓜 𝓖 𝓡 =
     entered 𝓤 H (tripleOf 𝓤 H (𝓖 .A) row.signature (row.spec 𝓤 H (𝓖 .A) (𝓜 .mem) (𝓡 .run)))
     (tables 𝓤 H 𝓜 𝓡 code.env .C) (tables 𝓤 H 𝓜 𝓡 code.env .Λ) #handle·row code.function (code.unfolded 𝓤 H 𝓜 𝓡)
     (row-meets 𝓤 H (𝓖 .A) (givenOf 𝓤 H 𝓜 𝓖) (𝓜 .mem) (𝓡 .run) (tablesOf 𝓤 H 𝓜 (tables 𝓤 H 𝓜 𝓡 code.env))
-    (cited 𝓤 H (SheetRow 𝓤 H (𝓖 .A) (𝓜 .mem) (𝓡 .run)) 𝓜 𝓡 code.env #readers·sheet-row sheet-row-def.routine code.calls-readers·sheet-row (sheet-row-thm.met 𝓤 H 𝓜 𝓖 𝓡)))
+    (cited 𝓤 H (SheetRow 𝓤 H (𝓖 .A) (𝓜 .mem) (𝓡 .run)) 𝓜 𝓡 code.env #readers·sheet-row sheet-row-def.routine code.calls-sheet-readers·sheet-row (sheet-row-thm.met 𝓤 H 𝓜 𝓖 𝓡)))

@@ -15,6 +15,10 @@ Inv-loop s₀ at xs i₀ s i = (i ≤ length xs) × (length s ≡ length s₀) �
 abbrev μ-loop : tie.MeasureT-loop
 μ-loop s₀ at xs i₀ s i = length xs - i
 
+-- where the call begins
+abbrev start : tie.After-loop Inv-loop μ-loop → tie.Start Inv-loop μ-loop
+start c = c .before .before .before .before
+
 loop-holds : tie.Need-loop-holds Inv-loop μ-loop
 unfolding pack
 loop-holds c = (omega arith, refl, refl)
@@ -27,7 +31,7 @@ loop-again c =
 
 returns : tie.Need-returns Inv-loop μ-loop
 returns c =
-    let a = c .before .before .before .before .args in
+    let a = start c .args in
     put-end 4 (a .s .now) (a .at) (c .before .loop .i) (a .xs .now) (omega arith) (c .before .loop .inv .2)
 
 pub put-u32s-spec : {M : Type 1} → statement M

@@ -16,6 +16,10 @@ Inv-loop s at xs₀ i₀ xs i = (i ≤ length xs₀) × (length xs ≡ length xs
 abbrev μ-loop : tie.MeasureT-loop
 μ-loop s at xs₀ i₀ xs i = length xs₀ - i
 
+-- where the call begins
+abbrev start : tie.After-loop Inv-loop μ-loop → tie.Start Inv-loop μ-loop
+start c = c .before .before .before .before
+
 loop-holds : tie.Need-loop-holds Inv-loop μ-loop
 unfolding unpack
 loop-holds c = (omega arith, refl, refl)
@@ -28,7 +32,7 @@ loop-again c =
 
 returns : tie.Need-returns Inv-loop μ-loop
 returns c =
-    let a = c .before .before .before .before .args in
+    let a = start c .args in
     read-end (λ x. x) 4 (a .xs .now) (a .s .now) (a .at) (c .before .loop .i) (omega arith) (c .before .loop .inv .2) ∙ map-id _
 
 pub read-u32s-spec : {M : Type 1} → statement M

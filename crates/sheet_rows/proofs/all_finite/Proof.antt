@@ -25,14 +25,18 @@ Inv-loop numbers i₀ i = (i ≤ length numbers) × (allFinite numbers ≡ allFi
 abbrev μ-loop : tie.MeasureT-loop
 μ-loop numbers i₀ i = length numbers - i
 
+-- at the head of the loop
+abbrev at-loop : tie.After-is-finite Inv-loop μ-loop → tie.At-loop Inv-loop μ-loop
+at-loop c = c .before .before .before
+
 returns : tie.Need-returns Inv-loop μ-loop
 returns c =
-    let at = c .before .before .before .before in
+    let at = at-loop (c .before) in
     sym (at .loop .inv .1 ∙ from (now (at .before .before .args .numbers)) (at .loop .i) (omega arith) false (sym (c .before .is-finite .ensures) ∙ not-true _ (c .if1 .taken)))
 
 loop-again : tie.Need-loop-again Inv-loop μ-loop
 loop-again c =
-    let at = c .before .before .before .before in
+    let at = at-loop (c .before) in
     (omega arith, at .loop .inv .1 ∙ from (now (at .before .before .args .numbers)) (at .loop .i) (omega arith) true (sym (c .before .is-finite .ensures) ∙ not-false _ (c .if1 .left)))
 
 returns-2 : tie.Need-returns-2 Inv-loop μ-loop

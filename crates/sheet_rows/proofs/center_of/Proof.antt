@@ -8,9 +8,13 @@ use Rattle.polyhedron_centroid.specs.Centroid.{radius}
 use Rattle.sheet_rows.proofs.center_of.Statement.{statement}
 use Rattle.sheet_rows.proofs.center_of.Tie as tie
 
+-- where the call begins
+abbrev start : tie.Then1 → tie.Start
+start c = c .before .before .before .before .before
+
 returns : tie.Need-returns
 returns c =
-    let a = c .before .before .before .before .before .before .before .args in
+    let a = start (c .before .before) .args in
     λ m. (c .before .centroid .ensures, c .radius .ensures ∙ ap (λ (x : Vector). radius x (now (a .verts)) (now (a .faces))) (c .before .centroid .ensures))
 
 pub center-of-spec : {M : Type 1} → statement M
@@ -18,7 +22,7 @@ center-of-spec =
     tie.close
     (tie.spec
     (λ c κs. search needs)
-    (λ c κs. let h = c .before .before .before .before .before .pre (sym (c .before .is-mesh .ensures) ∙ c .if1 .taken) in (h .0, h .1))
-    (λ c κs. let h = c .before .before .before .before .before .before .pre (sym (c .before .before .is-mesh .ensures) ∙ c .before .if1 .taken) in (h .0, h .1))
+    (λ c κs. let h = start c .pre (sym (c .before .is-mesh .ensures) ∙ c .if1 .taken) in (h .0, h .1))
+    (λ c κs. let h = start (c .before) .pre (sym (c .before .before .is-mesh .ensures) ∙ c .before .if1 .taken) in (h .0, h .1))
     returns
     (λ c m. absurd (true≢false (sym m ∙ sym (c .before .is-mesh .ensures) ∙ c .if1 .left))))

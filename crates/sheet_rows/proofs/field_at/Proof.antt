@@ -29,7 +29,9 @@ returns c =
 
 returns-2 : tie.Need-returns-2
 unfolding fieldAt
-returns-2 c = (c .prism-at .ensures ∙ simp (prism (c .before .before .before), c .before .vertex2 .ensures, c .before .before .vertex .ensures), refl)
+returns-2 c =
+    let corners = c .before .before in
+    (c .prism-at .ensures ∙ simp (prism (corners .before .before), c .before .axis-rule .ensures, corners .vertex2 .ensures, corners .before .vertex .ensures), refl)
 
 pub field-at-spec : {M : Type 1} → statement M
 field-at-spec =
@@ -41,5 +43,6 @@ field-at-spec =
     returns
     (λ c κs. omega (arith, start (c .before) .pre .0 .corners (prism c)))
     (λ c κs. omega (arith, start (c .before .before) .pre .0 .corners (prism (c .before))))
+    (λ c κs. search needs)
     (λ c κs. search needs)
     returns-2)

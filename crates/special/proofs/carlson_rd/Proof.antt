@@ -1,24 +1,16 @@
 -- `special::carlson_rd` meets its contract. Assumes nothing.
-use Rattle.special.specs.Domain.{carlsonRd}
 use borrow.Author.Needs.{needs}
+use Rattle.special.specs.Domain.{carlsonRd}
 use Rattle.special.proofs.carlson_rd.Statement.{statement}
 use Rattle.special.proofs.carlson_rd.Tie as tie
 
 returns : tie.Need-returns
 unfolding carlsonRd
-returns c =
-    let if2 = c .before in
-    let if1 = if2 .before in
-    let in-domain = if1 .before in
-    simp (← in-domain .in-domain .ensures, if1 .if1 .taken, if2 .if2 .taken, c .rd .ensures)
+returns c = simp (← c .before .before .in-domain .ensures, c .before .if1 .taken, c .rd .ensures)
 
 returns-2 : tie.Need-returns-2
 unfolding carlsonRd
-returns-2 c = simp (← c .before .before .in-domain .ensures, c .before .if1 .taken, c .if2 .left)
-
-returns-3 : tie.Need-returns-3
-unfolding carlsonRd
-returns-3 c = simp (← c .before .in-domain .ensures, c .if1 .left)
+returns-2 c = simp (← c .before .in-domain .ensures, c .if1 .left)
 
 pub carlson-rd-spec : {M : Type 1} → statement M
-carlson-rd-spec = tie.close (tie.spec (λ c κs. search needs) (λ c κs. search needs) returns returns-2 returns-3)
+carlson-rd-spec = tie.close (tie.spec (λ c κs. search needs) (λ c κs. search needs) returns returns-2)

@@ -1,16 +1,12 @@
 -- `special::finite_not_below_zero` meets its contract. Assumes nothing.
-use Rattle.special.specs.Domain.{finiteNotBelowZero}
 use borrow.Author.Needs.{needs}
+use Rattle.special.specs.Domain.{finiteNotBelowZero}
 use Rattle.special.proofs.finite_not_below_zero.Statement.{statement}
 use Rattle.special.proofs.finite_not_below_zero.Tie as tie
 
 returns : tie.Need-returns
 unfolding finiteNotBelowZero
-returns c = simp (← c .before .is-finite .ensures, c .if1 .taken)
-
-returns-2 : tie.Need-returns-2
-unfolding finiteNotBelowZero
-returns-2 c = simp (← c .before .is-finite .ensures, c .if1 .left)
+returns c = simp (c .is-finite .ensures)
 
 pub finite-not-below-zero-spec : {M : Type 1} → statement M
-finite-not-below-zero-spec = tie.close (tie.spec (λ c κs. search needs) returns returns-2)
+finite-not-below-zero-spec = tie.close (tie.spec (λ c κs. search needs) returns)

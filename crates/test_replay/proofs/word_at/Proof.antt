@@ -14,6 +14,14 @@ Inv-loop s k from v₀ i₀ v i = ((i ≤ 16) × (17 * k + 17 ≤ length s) × (
 abbrev μ-loop : tie.MeasureT-loop
 μ-loop s k from v₀ i₀ v i = 16 - i
 
+-- where the call begins
+abbrev start : tie.After-loop Inv-loop μ-loop → tie.Start Inv-loop μ-loop
+start c = c .before .before .before .before
+
+-- at the head of the loop
+abbrev at-loop : tie.After-digit Inv-loop μ-loop → tie.At-loop Inv-loop μ-loop
+at-loop c = c .before .before .before
+
 returns : tie.Need-returns Inv-loop μ-loop
 returns c = past-end (c .before .before .args .s .now) (c .before .before .args .k) (c .if1 .taken)
 
@@ -22,20 +30,20 @@ loop-holds c = ((omega arith, omega arith, omega arith), opens (c .before .befor
 
 returns-2 : tie.Need-returns-2 Inv-loop μ-loop
 returns-2 c =
-    let at = c .before .before .before .before in
+    let at = at-loop (c .before) in
     let l = at .loop in
     let a = at .before .before .before .args in
     sym (l .inv .1 ∙ bad (a .s .now) (17 * a .k + l .i) (l .v) (c .before .digit .result) (c .before .digit .ensures) (16 - l .i) (omega (arith, c .before .before .before .loop-test .taken)) (c .if2 .taken))
 
 mul-v : tie.Need-mul-v Inv-loop μ-loop
-mul-v c = let l = c .before .before .before .before .loop in omega (arith, fits (l .v) (c .before .digit .result) (l .i) (l .inv .0 .2) (c .before .before .before .loop-test .taken) (c .if2 .left))
+mul-v c = let l = at-loop (c .before) .loop in omega (arith, fits (l .v) (c .before .digit .result) (l .i) (l .inv .0 .2) (c .before .before .before .loop-test .taken) (c .if2 .left))
 
 add-v : tie.Need-add-v Inv-loop μ-loop
-add-v c = let l = c .before .before .before .before .loop in omega (arith, fits (l .v) (c .before .digit .result) (l .i) (l .inv .0 .2) (c .before .before .before .loop-test .taken) (c .if2 .left))
+add-v c = let l = at-loop (c .before) .loop in omega (arith, fits (l .v) (c .before .digit .result) (l .i) (l .inv .0 .2) (c .before .before .before .loop-test .taken) (c .if2 .left))
 
 loop-again : tie.Need-loop-again Inv-loop μ-loop
 loop-again c =
-    let at = c .before .before .before .before in
+    let at = at-loop (c .before) in
     let l = at .loop in
     let a = at .before .before .before .args in
     let t = c .before .before .before .loop-test .taken in
@@ -47,7 +55,7 @@ loop-again c =
 returns-3 : tie.Need-returns-3 Inv-loop μ-loop
 returns-3 c =
     let l = c .before .loop in
-    let a = c .before .before .before .before .args in
+    let a = start c .args in
     sym (l .inv .1 ∙ done (a .s .now) (17 * a .k + l .i) (16 - l .i) (l .v) (omega arith))
 
 pub word-at-spec : {M : Type 1} → statement M

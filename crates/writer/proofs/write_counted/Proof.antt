@@ -12,6 +12,13 @@ use Rattle.writer.proofs.Stages.{room, few, counted, body-refused, orde
 use Rattle.writer.proofs.write_counted.Statement.{statement}
 use Rattle.writer.proofs.write_counted.Tie as tie
 
+-- where the call begins
+abbrev entry : tie.After-check-body-arg → tie.Start
+entry c = c .before .before .before .before .before .before
+
+abbrev slice-known3 : tie.After-known-told → tie.After-slice-known3
+slice-known3 c = c .before .before .before
+
 abbrev input : tie.Start → SheetInput
 input c = let a = c .args in inputOf (a .kind) (now (a .verts)) (now (a .faces)) (a .magnetisation) (a .ambient) (now (a .stations))
 
@@ -23,11 +30,11 @@ out c = now (c .args .out)
 
 -- where the call begins
 abbrev start : tie.After-check-body → tie.Start
-start c = c .before .before .before .before .before .before .before
+start c = entry (c .before)
 
 returns : tie.Need-returns
 returns c =
-    let k = c .before .before .before .before .before in
+    let k = slice-known3 c .before .before in
     let st = start k in
     let a = st .args in
     body-refused (input st) (work st) (out st) (st .pre) (k .check-body .ensures (a .magnetisation) (a .ambient) (now (a .stations))) (c .before .r .given .0 .0) (c .before .r .given .1)
@@ -35,30 +42,30 @@ returns c =
 -- ---- the body is not refused
 
 -- where the body was checked
-abbrev checked : tie.After-sheet-length → tie.After-check-body
-checked c = c .before .before .before .before .before .before
+abbrev checked : tie.After-volume → tie.After-check-body
+checked c = c .before .before .before .before
 
-fits : (c : tie.After-sheet-length) → c .sheet-length .result ≤ length (out (start (checked c)))
-fits c = let st = start (checked c) in omega (arith, c .sheet-length .ensures, room (input st) (work st) (out st) (st .pre) .1)
+fits : (c : tie.After-sheet-length) → c .sheet-length .result ≤ length (out (start (checked (c .before .before))))
+fits c = let st = start (checked (c .before .before)) in omega (arith, c .sheet-length .ensures, room (input st) (work st) (out st) (st .pre) .1)
 
 slice-reshare-prefix-put-sheet : tie.Need-slice-reshare-prefix-put-sheet
-slice-reshare-prefix-put-sheet c = let st = start (checked c) in omega (arith, room (input st) (work st) (out st) (st .pre) .0)
+slice-reshare-prefix-put-sheet c = let st = start (checked (c .before .before)) in omega (arith, room (input st) (work st) (out st) (st .pre) .0)
 
 slice-aggregate-put-sheet : tie.Need-slice-aggregate-put-sheet
 slice-aggregate-put-sheet c =
     let v = c .before .before .before in
-    let k = v .before .before .before .before in
+    let k = checked v in
     let st = start k in
     sym (order-size (input st) (work st) (out st) (st .pre) (k .check-body .ensures (st .args .magnetisation) (st .args .ambient) (now (st .args .stations))) (v .volume .given .0 .0) (v .volume .given .1))
 
 slice-aggregate-put-sheet-2 : tie.Need-slice-aggregate-put-sheet-2
-slice-aggregate-put-sheet-2 c = let t = c .before .before in sym (length-take-le (t .sheet-length .result) (out (start (checked t))) (fits t))
+slice-aggregate-put-sheet-2 c = let t = c .before .before in sym (length-take-le (t .sheet-length .result) (out (start (checked (t .before .before)))) (fits t))
 
 put-sheet-requires : tie.Need-put-sheet-requires
 put-sheet-requires c κs =
     let t = c .before .before in
     let v = t .before .before in
-    let k = v .before .before .before .before in
+    let k = checked v in
     let st = start k in
     prepared (input st) (work st) (out st) (st .pre) (k .check-body .ensures (st .args .magnetisation) (st .args .ambient) (now (st .args .stations))) (v .volume .given .0 .0) (v .volume .given .1) _ (length-take-le (t .sheet-length .result) (out st) (fits t) ∙ t .sheet-length .ensures)
 
@@ -66,7 +73,7 @@ returns-2 : tie.Need-returns-2
 returns-2 c =
     let t = c .before .before .before .before .before .before in
     let v = t .before .before in
-    let k = v .before .before .before .before in
+    let k = checked v in
     let st = start k in
     put (input st) (work st) (out st) (st .pre) (k .check-body .ensures (st .args .magnetisation) (st .args .ambient) (now (st .args .stations))) (v .volume .given .0 .0) (v .volume .given .1) (c .before .before .before .put-sheet .result) (t .sheet-length .result) (t .sheet-length .ensures) (c .before .before .before .put-sheet .ensures) (c .answer .ensures)
 
@@ -74,10 +81,10 @@ pub write-counted-spec : {M : Type 1} → statement M
 write-counted-spec =
     tie.close
     (tie.spec
-    (λ c κs. let st = c .before .before .before .before .before .before in counted (input st) (work st) (out st) (st .pre))
+    (λ c κs. let st = entry c in counted (input st) (work st) (out st) (st .pre))
     (λ c. search needs)
     (λ c. search needs)
-    (λ c κs. let st = start (c .before .before .before .before .before) in few (input st) (work st) (out st) (st .pre))
+    (λ c κs. let st = start (checked (c .before)) in few (input st) (work st) (out st) (st .pre))
     slice-reshare-prefix-put-sheet
     slice-aggregate-put-sheet
     (λ c. fits (c .before))

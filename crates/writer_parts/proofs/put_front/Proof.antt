@@ -8,17 +8,30 @@ use Rattle.writer_parts.proofs.Pieces.{front}
 use Rattle.writer_parts.proofs.put_front.Statement.{statement}
 use Rattle.writer_parts.proofs.put_front.Tie as tie
 
+-- where the call begins
+abbrev start : tie.After-put-f64s → tie.Start
+start c = c .before .before .before .before .before .before .before
+
+abbrev put-f64s : tie.After-put-u32s → tie.After-put-f64s
+put-f64s c = c .before .before .before .before
+
+abbrev put-u32s : tie.After-put-u32s2 → tie.After-put-u32s
+put-u32s c = c .before .before .before .before
+
+abbrev put-u32s2 : tie.After-put-mates-arg → tie.After-put-u32s2
+put-u32s2 c = c .before .before .before
+
 put-u32s-requires-2 : tie.Need-put-u32s-requires-2
-put-u32s-requires-2 c κs = let st = c .before .before .before .before .before .before .before .before .before .before .before .before .before .before in omega (arith, ap length (st .pre .1) ∙ order-length (now (st .args .faces)), st .pre .2)
+put-u32s-requires-2 c κs = let st = start (put-f64s (c .before .before .before)) in omega (arith, ap length (st .pre .1) ∙ order-length (now (st .args .faces)), st .pre .2)
 
 returns : tie.Need-returns
 returns c =
     let fifth = c .before .before in
     let fourth = fifth .before .before .before .before in
-    let third = fourth .before .before .before .before in
-    let second = third .before .before .before .before in
-    let first = second .before .before .before .before in
-    let st = first .before .before .before .before .before .before .before in
+    let third = put-u32s2 (fourth .before) in
+    let second = put-u32s third in
+    let first = put-f64s second in
+    let st = start first in
     let a = st .args in
     front (now (a .out)) (now (a .verts)) (now (a .faces)) (now (a .order)) (now (a .stations)) (st .pre .1) (first .put-f64s .ensures) (second .put-u32s .ensures) (third .put-u32s2 .ensures) (fourth .put-mates .ensures) (fifth .put-f64s2 .ensures)
 
@@ -34,7 +47,7 @@ put-front-spec =
     put-u32s-requires-2
     (λ c. omega arith)
     (λ c. omega arith)
-    (λ c κs. let st = c .before .before .before .before .before .before .before .before .before .before .before .before .before .before .before .before .before .before in (st .pre .0, st .pre .1, omega (arith, st .pre .2)))
+    (λ c κs. let st = start (put-f64s (put-u32s (put-u32s2 c))) in (st .pre .0, st .pre .1, omega (arith, st .pre .2)))
     (λ c. omega arith)
     (λ c. omega arith)
     (λ c κs. omega arith)

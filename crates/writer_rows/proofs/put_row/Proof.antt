@@ -20,6 +20,15 @@ use Rattle.writer_rows.proofs.RowLaws.{not-none, of-row, of-refused}
 use Rattle.writer_rows.proofs.put_row.Statement.{statement}
 use Rattle.writer_rows.proofs.put_row.Tie as tie
 
+abbrev row-at : tie.After-known-told → tie.After-row-at
+row-at c = c .before .before .before .before
+
+abbrev none2 : tie.After-row-numbers → tie.After-none2
+none2 c = c .before .before .before .before .before .before
+
+abbrev row-numbers : tie.After-slice-known2 → tie.After-row-numbers
+row-numbers c = c .before .before .before .before .before
+
 input : (c : tie.Start) → SheetInput
 input c = let a = c .args in inputOf (a .kind) (now (a .verts)) (now (a .faces)) (a .magnetisation) (a .ambient) (now (a .stations))
 
@@ -41,7 +50,7 @@ given c = sym (ap answerOf (c .row .given .1)) ∙ answered (c .before .before .
 returns : tie.Need-returns
 unfolding input
 returns c =
-    let numbers = c .before .before .before .before .before in
+    let numbers = row-numbers c in
     let finite = numbers .before .before in
     let row = finite .before .before in
     let st = start (row .before .before .before) in
@@ -55,7 +64,7 @@ returns-2 : tie.Need-returns-2
 unfolding input
 returns-2 c =
     let r = c .before .r .given .0 .0 in
-    let at = c .before .before .before .before in
+    let at = row-at c in
     let st = start at in
     record { cause = of-refused (input st) (st .args .i) r (sym (ap answerOf (c .before .r .given .1)) ∙ answered at); row = λ z. absurd (not-none r z) }
 
@@ -83,7 +92,7 @@ put-row-spec =
     (λ c κs. tt)
     (λ c κs. tt)
     (λ c. search needs)
-    (λ c κs. omega (arith, start (c .before .before .before .before .before .before .before .before .before) .pre .2))
+    (λ c κs. omega (arith, start (none2 (c .before .before) .before) .pre .2))
     (λ c. omega arith)
     returns
     returns-2

@@ -27,12 +27,19 @@ Inv-loop kind m b c verts faces stations out₀ at n size i₀ out i =
 abbrev μ-loop : tie.MeasureT-loop
 μ-loop kind m b c verts faces stations out₀ at n size i₀ out i = n - i
 
+-- where the call begins
+abbrev start : tie.At-loop Inv-loop μ-loop → tie.Start Inv-loop μ-loop
+start c = c .before .before .before .before .before .before
+
+abbrev put-row : tie.After-slice-known2 Inv-loop μ-loop → tie.After-put-row Inv-loop μ-loop
+put-row c = c .before .before
+
 loop-holds : tie.Need-loop-holds Inv-loop μ-loop
 unfolding firstOf rows pack
 loop-holds c = (omega arith, refl, c .row-length .ensures, refl, refl, refl)
 
 -- where row i stands after the first
-place : (c : tie.At-loop Inv-loop μ-loop) → c .before .row-length .result * c .loop .i ≡ 8 * rowWidth (c .before .before .before .before .before .before .args .kind) * c .loop .i
+place : (c : tie.At-loop Inv-loop μ-loop) → c .before .row-length .result * c .loop .i ≡ 8 * rowWidth (start c .args .kind) * c .loop .i
 place c = ap (λ (x : ℕ). x * c .loop .i) (c .loop .inv .2)
 
 abbrev input : tie.Start Inv-loop μ-loop → SheetInput
@@ -40,9 +47,9 @@ input c = let a = c .args in inputOf (a .kind) (now (a .verts)) (now (a .faces))
 
 returns : tie.Need-returns Inv-loop μ-loop
 returns c =
-    let put = c .before .before .before .before .before in
+    let put = put-row (c .before .before .before) in
     let at = put .before .before .before in
-    let s = input (at .before .before .before .before .before .before) in
+    let s = input (start at) in
     let r = c .before .cause .given .0 .0 in
     record {
       cause = sym (stop (stationCount s) (at .loop .i) (stationCause s) r (omega arith) (at .loop .inv .4) (sym (put .put-row .ensures .cause) ∙ c .before .cause .given .1));
@@ -51,9 +58,9 @@ returns c =
 
 loop-again : tie.Need-loop-again Inv-loop μ-loop
 loop-again c =
-    let put = c .before .before .before .before in
+    let put = put-row (c .before .before) in
     let at = put .before .before .before in
-    let st = at .before .before .before .before .before .before in
+    let st = start at in
     let a = st .args in
     let i = at .loop .i in
     let told = c .enum-told .given .1 in (
@@ -68,7 +75,7 @@ loop-again c =
 returns-2 : tie.Need-returns-2 Inv-loop μ-loop
 returns-2 c =
     let at = c .before in
-    let st = at .before .before .before .before .before .before in
+    let st = start at in
     all-rows (input st) (now (st .args .out)) (st .args .at) (at .loop .i) (omega arith) (at .loop .inv .4) (at .loop .inv .5)
 
 pub put-rows-spec : {M : Type 1} → statement M
@@ -82,7 +89,7 @@ put-rows-spec =
     (λ c. omega arith)
     (λ c. omega (arith, place (c .before .before)))
     (λ c. omega (arith, place (c .before .before)))
-    (λ c κs. (c .before .before .before .before .before .before .before .before .pre .0, omega arith, omega (arith, place (c .before .before))))
+    (λ c κs. (start (c .before .before) .pre .0, omega arith, omega (arith, place (c .before .before))))
     (λ c. search needs)
     (λ c. omega arith)
     returns

@@ -12,6 +12,7 @@ use borrow.Author.Needs.{needs}
 use borrow.Fn.Kinds.{In}
 use borrow.Fn.PlainCycle.{Measures, is, falls, and}
 use Rattle.lists.proofs.Numbers.{below?, both-within, not-both-within}
+use Rattle.mesh_orders.specs.Edges.{maxVertices}
 use Rattle.sheet.specs.Checker.{verticesIn, facesIn}
 use Rattle.sheet_readers.specs.Opened.{Opened}
 use Rattle.checker.proofs.rooms.from_room.Reads as from-room
@@ -28,7 +29,7 @@ use Rattle.checker.proofs.rooms.+from_room.{statement}
 use Rattle.checker.proofs.rooms.+from_room.Tie.{close}
 
 abbrev μ-from-room : Measures 1 from-room-kinds.ps ℕ
-μ-from-room κs a = 80000 - a .1 .0
+μ-from-room κs a = 4 * maxVertices - a .1 .0
 
 abbrev from-room-at : ℕ → In 1 from-room-kinds.ps
 from-room-at t = and 1 from-room-kinds.ps (is 1 from-room-kinds.ps μ-from-room t) from-room.Pre
@@ -37,16 +38,17 @@ abbrev from-room-below : ℕ → In 1 from-room-kinds.ps
 from-room-below t = and 1 from-room-kinds.ps (falls 1 from-room-kinds.ps _<_ μ-from-room t) from-room.Pre
 
 -- the largest room holds every body
-not-largest : (b : List ℕ) (n : ℕ) → Opened b → (leb (verticesIn b) n && leb (facesIn b) (2 * n)) ≡ false → n < 20000
+not-largest : (b : List ℕ) (n : ℕ) → Opened b → (leb (verticesIn b) n && leb (facesIn b) (2 * n)) ≡ false → n < maxVertices
 not-largest b n h e =
-    ⊎-elim (λ l. l) (λ g. absurd (not-both-within (verticesIn b) (facesIn b) n (2 * n) e (omega (arith, h .vertices)) (omega (arith, h .faces)))) (below? n 20000)
+    ⊎-elim (λ l. l) (λ g. absurd (not-both-within (verticesIn b) (facesIn b) n (2 * n) e (omega (arith, h .vertices)) (omega (arith, h .faces)))) (below? n maxVertices)
 
 -- the room of size m holds this one
 held : (b : List ℕ) (n m : ℕ) → n ≡ m → Opened b → (leb (verticesIn b) n && leb (facesIn b) (2 * n)) ≡ true → Opened b × (verticesIn b ≤ m) × (facesIn b ≤ 2 * m)
 held b n m q h e = let w = both-within (verticesIn b) (facesIn b) n (2 * n) e in (h, omega (arith, w .0), omega (arith, w .1))
 
-pub +from-room-spec : {M : Type 1} → statement M
-+from-room-spec = close μ-from-room λ t. from-room-lts.spec (
+-- what the calls ask and tell
+abbrev claims : ℕ → from-room-lts.Claims
+claims t = (
   fits-reads.Asked,
   fits-reads.Learnt,
   from-room-below t,
@@ -64,6 +66,13 @@ pub +from-room-spec : {M : Type 1} → statement M
   in-room-all-reads.Asked,
   in-room-all-reads.Learnt,
 )
+
+-- where the call begins
+abbrev start : (t : ℕ) → from-room-lts.Else1 (claims t) (from-room-at t) from-room.Post → from-room-lts.Start (claims t) (from-room-at t) from-room.Post
+start t c = c .before .before .before
+
+pub +from-room-spec : {M : Type 1} → statement M
++from-room-spec = close μ-from-room λ t. from-room-lts.spec (claims t)
     (from-room-at t)
     from-room.Post
     (λ c κs. search needs)
@@ -74,11 +83,11 @@ pub +from-room-spec : {M : Type 1} → statement M
     let l = not-largest (now (st .args .sheet)) (st .args .n) (h .0) (sym (c .before .fits2 .ensures) ∙ not-true _ (c .if1 .taken)) in
     (omega (arith, st .pre .0, h .1), (h .0, omega (arith, h .1), omega (arith, l))))
     (λ c. search needs)
-    (λ c κs. let st = c .before .before .before .before in held (now (st .args .sheet)) (st .args .n) 40 (c .match .keys1) (st .pre .1 .0) (sym (c .before .before .fits2 .ensures) ∙ not-false _ (c .before .if1 .left)))
-    (λ c κs. let st = c .before .before .before .before in held (now (st .args .sheet)) (st .args .n) 160 (c .match .keys2) (st .pre .1 .0) (sym (c .before .before .fits2 .ensures) ∙ not-false _ (c .before .if1 .left)))
-    (λ c κs. let st = c .before .before .before .before in held (now (st .args .sheet)) (st .args .n) 640 (c .match .keys3) (st .pre .1 .0) (sym (c .before .before .fits2 .ensures) ∙ not-false _ (c .before .if1 .left)))
-    (λ c κs. let st = c .before .before .before .before in held (now (st .args .sheet)) (st .args .n) 2560 (c .match .keys4) (st .pre .1 .0) (sym (c .before .before .fits2 .ensures) ∙ not-false _ (c .before .if1 .left)))
-    (λ c κs. let st = c .before .before .before .before in held (now (st .args .sheet)) (st .args .n) 10240 (c .match .keys5) (st .pre .1 .0) (sym (c .before .before .fits2 .ensures) ∙ not-false _ (c .before .if1 .left)))
+    (λ c κs. let st = start t (c .before) in held (now (st .args .sheet)) (st .args .n) 40 (c .match .keys1) (st .pre .1 .0) (sym (c .before .before .fits2 .ensures) ∙ not-false _ (c .before .if1 .left)))
+    (λ c κs. let st = start t (c .before) in held (now (st .args .sheet)) (st .args .n) 160 (c .match .keys2) (st .pre .1 .0) (sym (c .before .before .fits2 .ensures) ∙ not-false _ (c .before .if1 .left)))
+    (λ c κs. let st = start t (c .before) in held (now (st .args .sheet)) (st .args .n) 640 (c .match .keys3) (st .pre .1 .0) (sym (c .before .before .fits2 .ensures) ∙ not-false _ (c .before .if1 .left)))
+    (λ c κs. let st = start t (c .before) in held (now (st .args .sheet)) (st .args .n) 2560 (c .match .keys4) (st .pre .1 .0) (sym (c .before .before .fits2 .ensures) ∙ not-false _ (c .before .if1 .left)))
+    (λ c κs. let st = start t (c .before) in held (now (st .args .sheet)) (st .args .n) 10240 (c .match .keys5) (st .pre .1 .0) (sym (c .before .before .fits2 .ensures) ∙ not-false _ (c .before .if1 .left)))
     (λ c κs. search needs)
     (λ c. search needs)
     (λ c. search needs)

@@ -22,6 +22,14 @@ Inv-loop faces order guesses i₀ i = (i ≤ length order) × (firstOf i (λ j. 
 abbrev μ-loop : tie.MeasureT-loop
 μ-loop faces order guesses i₀ i = length order - i
 
+-- where the call begins
+abbrev start : tie.At-loop Inv-loop μ-loop → tie.Start Inv-loop μ-loop
+start c = c .before .before .before .before
+
+-- at the head of the loop
+abbrev at-loop : tie.After-has-reverse Inv-loop μ-loop → tie.At-loop Inv-loop μ-loop
+at-loop c = c .before .before .before .before
+
 uses : (c : tie.Start Inv-loop μ-loop) → Uses (now (c .args .faces)) (now (c .args .order))
 uses c = subst (Uses (now (c .args .faces))) (sym (c .pre .1)) (order-uses (now (c .args .faces)) (c .pre .0))
 
@@ -36,20 +44,20 @@ loop-holds c =
 
 has-reverse-requires : tie.Need-has-reverse-requires Inv-loop μ-loop
 has-reverse-requires c κs =
-    let st = c .before .before .before .before .before .before .before in
+    let st = start (c .before .before .before) in
     (st .pre .0, st .pre .1, uses st .below _ (omega arith), st .pre .2 .below _ (omega (arith, size st, st .pre .3)))
 
 start-requires : tie.Need-start-requires Inv-loop μ-loop
-start-requires c κs = let st = c .before .before .before .before .before .before .before .before .before in (st .pre .0 .triples, uses st .below _ (omega arith))
+start-requires c κs = let st = start (at-loop (c .before)) in (st .pre .0 .triples, uses st .below _ (omega arith))
 
 end-requires : tie.Need-end-requires Inv-loop μ-loop
-end-requires c κs = let st = c .before .before .before .before .before .before .before .before .before .before in (st .pre .0 .triples, uses st .below _ (omega arith))
+end-requires c κs = let st = start (at-loop (c .before .before)) in (st .pre .0 .triples, uses st .below _ (omega arith))
 
 returns : tie.Need-returns Inv-loop μ-loop
 unfolding openEdge
 returns c =
-    let at = c .before .before .before .before .before .before .before in
-    let st = at .before .before .before .before in
+    let at = at-loop (c .before .before .before) in
+    let st = start at in
     let f = now (st .args .faces) in
     let o = now (st .args .order) in
     ap₂ (λ (a b : ℕ). Refused (Open a b)) (c .before .start .ensures) (c .end .ensures)
@@ -59,8 +67,8 @@ returns c =
 
 loop-again : tie.Need-loop-again Inv-loop μ-loop
 loop-again c =
-    let at = c .before .before .before .before .before in
-    let st = at .before .before .before .before in
+    let at = at-loop (c .before) in
+    let st = start at in
     let f = now (st .args .faces) in
     let o = now (st .args .order) in (
       omega arith,
@@ -71,7 +79,7 @@ loop-again c =
 returns-2 : tie.Need-returns-2 Inv-loop μ-loop
 unfolding openEdge
 returns-2 c =
-    let st = c .before .before .before .before .before in
+    let st = start (c .before) in
     let f = now (st .args .faces) in
     let o = now (st .args .order) in
     scan-end (length f) (reverseOccurs f o) (openAt f o) (c .before .loop .i) (omega (arith, size st)) (omega (arith, size st)) (c .before .loop .inv .1)
@@ -87,7 +95,7 @@ first-open-spec =
     (λ c. omega arith)
     (λ c. omega arith)
     (λ c. omega arith)
-    (λ c. let st = c .before .before .before .before .before .before .before in omega (arith, size st, st .pre .3))
+    (λ c. let st = start (c .before .before .before) in omega (arith, size st, st .pre .3))
     has-reverse-requires
     start-requires
     end-requires

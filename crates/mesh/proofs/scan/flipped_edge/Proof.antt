@@ -25,6 +25,17 @@ Inv-loop faces order i₀ i = (i ≤ length order) × ((k : ℕ) → k < i → e
 abbrev μ-loop : tie.MeasureT-loop
 μ-loop faces order i₀ i = length order - i
 
+-- where the call begins
+abbrev start : tie.At-loop Inv-loop μ-loop → tie.Start Inv-loop μ-loop
+start c = c .before .before .before
+
+-- at the head of the loop
+abbrev at-loop : tie.After-edge Inv-loop μ-loop → tie.At-loop Inv-loop μ-loop
+at-loop c = c .before .before .before
+
+abbrev after-edge : tie.After-start Inv-loop μ-loop → tie.After-edge Inv-loop μ-loop
+after-edge c = c .before .before .before .before
+
 uses : (c : tie.Start Inv-loop μ-loop) → Uses (now (c .args .faces)) (now (c .args .order))
 uses c = subst (Uses (now (c .args .faces))) (sym (c .pre .1)) (order-uses (now (c .args .faces)) (c .pre .0))
 
@@ -35,16 +46,16 @@ loop-holds : tie.Need-loop-holds Inv-loop μ-loop
 loop-holds c = (omega arith, λ k l. absurd (omega arith))
 
 edge-requires : tie.Need-edge-requires Inv-loop μ-loop
-edge-requires c κs = let st = c .before .before .before .before .before in (st .pre .0 .triples, uses st .below _ (omega arith))
+edge-requires c κs = let st = start (c .before .before) in (st .pre .0 .triples, uses st .below _ (omega arith))
 
 edge-requires-2 : tie.Need-edge-requires-2 Inv-loop μ-loop
-edge-requires-2 c κs = let st = c .before .before .before .before .before .before .before in (st .pre .0 .triples, uses st .below _ (omega arith))
+edge-requires-2 c κs = let st = start (at-loop (c .before)) in (st .pre .0 .triples, uses st .below _ (omega arith))
 
 start-requires : tie.Need-start-requires Inv-loop μ-loop
-start-requires c κs = let st = c .before .before .before .before .before .before .before .before .before in (st .pre .0 .triples, uses st .below _ (omega arith))
+start-requires c κs = let st = start (at-loop (c .before .before .before)) in (st .pre .0 .triples, uses st .below _ (omega arith))
 
 end-requires : tie.Need-end-requires Inv-loop μ-loop
-end-requires c κs = let st = c .before .before .before .before .before .before .before .before .before .before in (st .pre .0 .triples, uses st .below _ (omega arith))
+end-requires c κs = let st = start (at-loop (after-edge c)) in (st .pre .0 .triples, uses st .below _ (omega arith))
 
 -- what the turns so far showed, of the order list
 differ : (c : tie.At-loop Inv-loop μ-loop) (j : ℕ) → j < c .loop .i
@@ -57,7 +68,7 @@ differ c j l e =
 returns : tie.Need-returns Inv-loop μ-loop
 unfolding flippedEdge
 returns c =
-    let at = c .before .before .before .before .before .before .before .before in
+    let at = at-loop (after-edge (c .before)) in
     let st = at .before .before .before in
     let f = now (st .args .faces) in
     let o = orderList f in
@@ -68,11 +79,11 @@ returns c =
     ∙ scan-stop (length f) (occursOnce f o) (flippedAt f o) i
     (omega (arith, size st)) (differ-none f (st .pre .0) i i (omega (arith, size st)) (inl (omega arith)) (differ at))
     (lt-leb _ 1 (same-twice f (st .pre .0) i (omega (arith, size st))
-    (sym (ap (edge f) same) ∙ sym (c .before .before .before .before .before .edge .ensures) ∙ c .before .before .if1 .taken ∙ c .before .before .before .edge2 .ensures ∙ ap (edge f) next)))
+    (sym (ap (edge f) same) ∙ sym (after-edge (c .before) .edge .ensures) ∙ c .before .before .if1 .taken ∙ c .before .before .before .edge2 .ensures ∙ ap (edge f) next)))
 
 loop-again : tie.Need-loop-again Inv-loop μ-loop
 loop-again c =
-    let at = c .before .before .before .before .before .before in
+    let at = at-loop (c .before .before .before) in
     let st = at .before .before .before in
     let f = now (st .args .faces) in
     let o = now (st .args .order) in (
@@ -86,7 +97,7 @@ loop-again c =
 returns-2 : tie.Need-returns-2 Inv-loop μ-loop
 unfolding flippedEdge
 returns-2 c =
-    let st = c .before .before .before .before in
+    let st = start (c .before) in
     let f = now (st .args .faces) in
     sym (differ-none f (st .pre .0) (c .before .loop .i) (length f) (omega arith) (inr (omega (arith, size st))) (differ (c .before)))
 

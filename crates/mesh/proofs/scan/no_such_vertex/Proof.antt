@@ -19,6 +19,10 @@ Inv-loop vertices faces i₀ i = (i ≤ length faces) × (firstOf i (λ j. unles
 abbrev μ-loop : tie.MeasureT-loop
 μ-loop vertices faces i₀ i = length faces - i
 
+-- where the call begins
+abbrev start : tie.At-loop Inv-loop μ-loop → tie.Start Inv-loop μ-loop
+start c = c .before .before .before .before
+
 returns : tie.Need-returns Inv-loop μ-loop
 returns c = sym (c .before .all-name-vertices .ensures (c .if1 .taken))
 
@@ -32,21 +36,21 @@ returns-2 : tie.Need-returns-2 Inv-loop μ-loop
 unfolding noSuchVertex
 returns-2 c =
     let turn = c .before .before .before in
-    let st = turn .before .before .before .before in
+    let st = start turn in
     let f = now (st .args .faces) in
     scan-stop (length f) (namesVertex (st .args .vertices) f) (λ i. NoSuchVertex (i / 3)) (turn .loop .i) (omega arith) (turn .loop .inv .1) (le-ltb _ _ (c .if2 .taken))
 
 loop-again : tie.Need-loop-again Inv-loop μ-loop
 loop-again c =
     let turn = c .before .before .before in
-    let st = turn .before .before .before .before in
+    let st = start turn in
     let f = now (st .args .faces) in
     (omega arith, scan-more (length f) (namesVertex (st .args .vertices) f) (λ i. NoSuchVertex (i / 3)) (turn .loop .i) (turn .loop .inv .1) (lt-ltb _ _ (c .if2 .left)))
 
 returns-3 : tie.Need-returns-3 Inv-loop μ-loop
 unfolding noSuchVertex
 returns-3 c =
-    let st = c .before .before .before .before .before in
+    let st = start (c .before) in
     let f = now (st .args .faces) in
     scan-end (length f) (namesVertex (st .args .vertices) f) (λ i. NoSuchVertex (i / 3)) (c .before .loop .i) (omega arith) (omega arith) (c .before .loop .inv .1)
 

@@ -11,6 +11,13 @@ use Rattle.mesh_orders.specs.OrderLaws.{order-length, order-uses}
 use Rattle.mesh.proofs.scan.open_edge.Statement.{statement}
 use Rattle.mesh.proofs.scan.open_edge.Tie as tie
 
+-- where the call begins
+abbrev start : tie.After-pass-arg2 → tie.Start
+start c = c .before .before .before .before .before .before
+
+abbrev pass : tie.After-first-open-arg → tie.After-pass
+pass c = c .before .before .before .before .before
+
 uses : (c : tie.Start) → Uses (now (c .args .faces)) (now (c .args .order))
 uses c = subst (Uses (now (c .args .faces))) (sym (c .pre .1)) (order-uses (now (c .args .faces)) (c .pre .0))
 
@@ -18,12 +25,12 @@ size : (c : tie.Start) → length (now (c .args .order)) ≡ length (now (c .arg
 size c = ap length (c .pre .1) ∙ order-length (now (c .args .faces))
 
 pass-requires : tie.Need-pass-requires
-pass-requires c κs = let st = c .before .before .before .before .before .before in (record { uses = uses st; size = size st; inside = st .pre .2 }, st .pre .3 ∙ sym (size st))
+pass-requires c κs = let st = start c in (record { uses = uses st; size = size st; inside = st .pre .2 }, st .pre .3 ∙ sym (size st))
 
 first-open-requires : tie.Need-first-open-requires
 first-open-requires c κs =
-    let p = c .before .before .before .before .before .pass in
-    let st = c .before .before .before .before .before .before .before .before .before .before .before .before in
+    let p = pass c .pass in
+    let st = start (pass c .before) in
     let f = now (st .args .faces) in (
       st .pre .0,
       st .pre .1,

@@ -9,6 +9,9 @@ use Rattle.mesh.specs.Surface.{vertexCount}
 use Rattle.mesh_check.proofs.room.check_large.Statement.{statement}
 use Rattle.mesh_check.proofs.room.check_large.Tie as tie
 
+abbrev counters : tie.After-check-edges-arg → tie.After-counters
+counters c = c .before .before .before .before
+
 -- where the call begins
 abbrev start : tie.After-counters → tie.Start
 start c = c .before .before .before .before
@@ -29,6 +32,6 @@ check-large-spec =
     (λ c. sym (vertices (c .before .before)))
     (λ c. omega (arith, c .before .room .ensures, start (c .before .before) .pre .0 .faces .few))
     (λ c. sym (uses (c .before .before)))
-    (λ c κs. let st = start (c .before .before .before .before) in (st .pre .0, vertices (c .before .before .before .before), uses (c .before .before .before), st .pre .1))
+    (λ c κs. let st = start (counters c) in (st .pre .0, vertices (counters c), uses (c .before .before .before), st .pre .1))
     (λ c. search needs)
     (λ c. search needs))

@@ -15,15 +15,19 @@ Inv-loop faces order e lo₀ hi₀ lo hi =
 abbrev μ-loop : tie.MeasureT-loop
 μ-loop faces order e lo₀ hi₀ lo hi = hi - lo
 
+-- at the head of the loop
+abbrev at-loop : tie.After-shared-slice-known3 Inv-loop μ-loop → tie.At-loop Inv-loop μ-loop
+at-loop c = c .before .before
+
 loop-holds : tie.Need-loop-holds Inv-loop μ-loop
 loop-holds c = (omega arith, omega arith, (λ k l. omega arith), λ k l m. omega arith)
 
 edge-requires : tie.Need-edge-requires Inv-loop μ-loop
-edge-requires c κs = let st = c .before .before .before .before .before in (st .pre .0 .faces .triples, st .pre .0 .below _ (omega arith))
+edge-requires c κs = let st = at-loop c .before .before .before in (st .pre .0 .faces .triples, st .pre .0 .below _ (omega arith))
 
 -- where the call begins
 abbrev start : tie.After-edge Inv-loop μ-loop → tie.Start Inv-loop μ-loop
-start c = c .before .before .before .before .before .before
+start c = at-loop (c .before) .before .before .before
 
 -- the edge at mid is at least every edge before it, and at most every edge after it
 ascends : (c : tie.After-edge Inv-loop μ-loop) (i j : ℕ) → i ≤ j → j < length (now (start c .args .order))
@@ -32,13 +36,13 @@ ascends c = let st = start c in sorted-le (edge (now (st .args .faces))) (now (s
 
 loop-again : tie.Need-loop-again Inv-loop μ-loop
 loop-again c =
-    let at = c .before .before .before .before in
+    let at = at-loop (c .before .before) in
     let mid = at .loop .lo + (at .loop .hi - at .loop .lo) / 2 in
     (omega arith, omega arith, (λ k l. omega (arith, ascends (c .before) k mid (omega arith) (omega arith), c .if1 .taken, c .before .edge .ensures)), at .loop .inv .3)
 
 loop-again-2 : tie.Need-loop-again-2 Inv-loop μ-loop
 loop-again-2 c =
-    let at = c .before .before .before .before in
+    let at = at-loop (c .before .before) in
     let mid = at .loop .lo + (at .loop .hi - at .loop .lo) / 2 in
     (omega arith, omega arith, at .loop .inv .2, λ k l m. omega (arith, ascends (c .before) mid k l m, c .if1 .left, c .before .edge .ensures))
 

@@ -7,13 +7,20 @@ use lib.ListN.{length, getD}
 use denote.Ref.{now}
 use borrow.Author.Needs.{needs}
 use Rattle.lists.specs.Sort.{Sorted}
-use Rattle.lists.proofs.Searching.{Lower}
+use Rattle.lists.specs.Sort.{LowerBound}
 use Rattle.mesh_orders.specs.Edges.{edge, reverse}
 use Rattle.mesh_orders.specs.Order.{orderList, Uses}
 use Rattle.mesh_orders.specs.OrderLaws.{order-length, order-uses, order-edges}
 use Rattle.mesh_orders.specs.MateLaws.{search-found, search-none}
 use Rattle.mesh_orders.proofs.mates.mate.Statement.{statement}
 use Rattle.mesh_orders.proofs.mates.mate.Tie as tie
+
+-- where the call begins
+abbrev start : tie.After-lower → tie.Start
+start c = c .before .before .before .before
+
+abbrev lower : tie.After-edge → tie.After-lower
+lower c = c .before .before .before
 
 reverse-requires : tie.Need-reverse-requires
 reverse-requires c κs = (c .before .before .pre .0 .triples, c .before .before .pre .2)
@@ -31,27 +38,27 @@ lower-requires c κs =
 
 -- what the search found, of the order list
 found : (c : tie.After-lower)
-    → Lower (edge (now (c .before .before .before .before .args .faces))) (orderList (now (c .before .before .before .before .args .faces)))
-    (reverse (now (c .before .before .before .before .args .faces)) (c .before .before .before .before .args .u)) (c .lower .result)
+    → LowerBound (edge (now (start c .args .faces))) (orderList (now (start c .args .faces)))
+    (reverse (now (start c .args .faces)) (start c .args .u)) (c .lower .result)
 found c =
-    let st = c .before .before .before .before in
+    let st = start c in
     let f = now (st .args .faces) in
-    subst (λ (e : ℕ). Lower (edge f) (orderList f) e (c .lower .result)) (c .before .reverse .ensures)
-    (subst (λ (o : List ℕ). Lower (edge f) o (c .before .reverse .result) (c .lower .result)) (st .pre .1) (c .lower .ensures))
+    subst (λ (e : ℕ). LowerBound (edge f) (orderList f) e (c .lower .result)) (c .before .reverse .ensures)
+    (subst (λ (o : List ℕ). LowerBound (edge f) o (c .before .reverse .result) (c .lower .result)) (st .pre .1) (c .lower .ensures))
 
 returns : tie.Need-returns
 returns c =
     let a = c .before in
-    let st = a .before .before .before .before in
+    let st = start a in
     search-none (now (st .args .faces)) (st .args .u) (st .pre .0) (a .lower .result) (found a) (λ l e. omega (arith, c .if1 .taken, size st))
 
 edge-requires : tie.Need-edge-requires
-edge-requires c κs = let st = c .before .before .before .before .before .before in (st .pre .0 .triples, uses st .below _ (omega arith))
+edge-requires c κs = let st = start (c .before .before) in (st .pre .0 .triples, uses st .below _ (omega arith))
 
 returns-2 : tie.Need-returns-2
 returns-2 c =
-    let a = c .before .before .before .before in
-    let st = a .before .before .before .before in
+    let a = lower (c .before) in
+    let st = start a in
     let i = a .lower .result in
     let f = now (st .args .faces) in
     let same : getD (now (st .args .order)) i 0 ≡ getD (orderList f) i 0 = ap (λ (o : List ℕ). getD o i 0) (st .pre .1) in
@@ -61,8 +68,8 @@ returns-2 c =
 
 returns-3 : tie.Need-returns-3
 returns-3 c =
-    let a = c .before .before .before .before in
-    let st = a .before .before .before .before in
+    let a = lower (c .before) in
+    let st = start a in
     let i = a .lower .result in
     let f = now (st .args .faces) in
     let same : getD (now (st .args .order)) i 0 ≡ getD (orderList f) i 0 = ap (λ (o : List ℕ). getD o i 0) (st .pre .1) in

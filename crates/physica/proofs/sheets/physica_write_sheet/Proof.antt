@@ -4,7 +4,11 @@ use Rattle.physica.proofs.sheets.physica_write_sheet.Statement.{stateme
 use Rattle.physica.proofs.sheets.physica_write_sheet.Tie as tie
 
 returns : tie.Need-returns
-returns c = let at = c .before .before .before .before .before .before .before in rw (← at .before .before .before .before .vector-of .ensures, ← at .before .before .before .vector-of2 .ensures, ← at .write-sheet .ensures .answer) (c .give-written .ensures, at .write-sheet .ensures)
+returns c =
+    let written = c .before .before .before .before .before .before .before in
+    let vectors = written .before .before .before in
+    let w = written .write-sheet .ensures in
+    rw (← vectors .before .vector-of .ensures, ← vectors .vector-of2 .ensures) (record { answer = rw (← w .answer) (c .give-written .ensures); lent = rw (← w .answer) w })
 
 pub physica-write-sheet-spec : {M : Type 1} → statement M
 physica-write-sheet-spec = tie.close (tie.spec (λ c κs. search needs) (λ c κs. search needs) (λ c κs. search needs) (λ c κs. search needs) (λ c. search needs) (λ c. search needs) returns)

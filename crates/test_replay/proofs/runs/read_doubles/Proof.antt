@@ -16,6 +16,10 @@ Inv-loop s at xs₀ i₀ xs i = ((i ≤ length xs) × (length xs ≡ length xs�
 abbrev μ-loop : tie.MeasureT-loop
 μ-loop s at xs₀ i₀ xs i = length xs - i
 
+-- where the call begins
+abbrev start : tie.After-double-at Inv-loop μ-loop → tie.Start Inv-loop μ-loop
+start c = c .before .before .before .before .before
+
 loop-holds : tie.Need-loop-holds Inv-loop μ-loop
 loop-holds c = ((omega arith, omega arith), λ j h. absurd (omega arith))
 
@@ -25,7 +29,7 @@ loop-less c = simp length-set (omega arith)
 loop-again : tie.Need-loop-again Inv-loop μ-loop
 loop-again c =
     let l = c .before .before .loop in
-    let a = c .before .before .before .before .before .args in (
+    let a = start c .args in (
       (simp length-set (omega arith), simp length-set (omega arith)),
       one-more (λ j. ofBits binary64 (wordAt (a .s .now) (a .at + j))) nan (l .xs) (l .i) (c .double-at .result) (omega arith) (c .double-at .ensures) (l .inv .1),
     )

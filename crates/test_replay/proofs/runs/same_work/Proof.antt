@@ -15,6 +15,10 @@ Inv-loop s at work i₀ i = (i ≤ length work) × ((j : ℕ) → j < i → word
 abbrev μ-loop : tie.MeasureT-loop
 μ-loop s at work i₀ i = length work - i
 
+-- at the head of the loop
+abbrev at-loop : tie.Else1 Inv-loop μ-loop → tie.At-loop Inv-loop μ-loop
+at-loop c = c .before .before .before .before
+
 loop-holds : tie.Need-loop-holds Inv-loop μ-loop
 loop-holds c = (omega arith, λ j h. absurd (omega arith))
 
@@ -26,8 +30,8 @@ returns c = λ e i h. cc
 
 loop-again : tie.Need-loop-again Inv-loop μ-loop
 loop-again c =
-    let l = c .before .before .before .before .loop in
-    let a = c .before .before .before .before .before .before .before .args in
+    let l = at-loop c .loop in
+    let a = at-loop c .before .before .before .args in
     (omega arith, agree-more (λ j. wordAt (a .s .now) (a .at + j)) (λ j. getD (a .work .now) j 0) (l .i) (sym (c .before .before .word-at .ensures) ∙ c .if1 .left) (l .inv .1))
 
 returns-2 : tie.Need-returns-2 Inv-loop μ-loop

@@ -1,0 +1,2 @@
+-- The stages of the checker after the opening.
+pub mod Later

@@ -1,2 +1,0 @@
--- The checker's causes in stages.
-pub mod Stages

@@ -1,0 +1,4 @@
+-- What the scans read and compare.
+mod Compare
+mod Mates
+mod Pairs

@@ -1,0 +1,3 @@
+-- What the scan of the mates tests at a time.
+pub mod Reverses
+pub mod Paired

@@ -1,0 +1,2 @@
+-- What the check of the stations hands up.
+pub mod Outcome

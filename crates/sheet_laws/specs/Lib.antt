@@ -1,0 +1,10 @@
+-- Demand 3, proved (`Demand3`, the last but one), document 01's reference facts, and the laws that they rest on.
+pub mod WriterLaws
+pub mod OrderAndMates
+pub mod Reading
+pub mod PrismVolume
+pub mod AcceptedLaws
+pub mod FieldFits
+pub mod KeptLaws
+pub mod Demand3
+pub mod ReferenceFacts

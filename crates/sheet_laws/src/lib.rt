@@ -1,0 +1,1 @@
+// Laws of the sheet. Definitions and laws alone: there is no code.

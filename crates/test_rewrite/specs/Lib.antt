@@ -1,2 +1,0 @@
--- What is compared.
-pub mod Same

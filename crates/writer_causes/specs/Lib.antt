@@ -1,0 +1,2 @@
+-- The first causes of refusal.
+pub mod LengthsCause

@@ -1,2 +1,0 @@
--- The first causes of refusal.
-pub mod CountCause
