@@ -36,9 +36,12 @@ const ROW_NUMBERS: usize = 8;
 const ROW_BYTES: usize = 8 * ROW_NUMBERS;
 const TRAILER_BYTES: usize = 80;
 
-/// The length of a sheet in bytes.
+/// The length of a sheet in bytes; `usize::MAX` for counts so large, far beyond those of refusal 2, that it does not fit.
 pub fn sheet_length(vertices: usize, faces: usize, stations: usize) -> usize {
-    POINT_BYTES * vertices + FACE_BYTES * faces + (POINT_BYTES + ROW_BYTES) * stations + TRAILER_BYTES
+    TRAILER_BYTES
+        .saturating_add(vertices.saturating_mul(POINT_BYTES))
+        .saturating_add(faces.saturating_mul(FACE_BYTES))
+        .saturating_add(stations.saturating_mul(POINT_BYTES + ROW_BYTES))
 }
 
 /// The sheet of a body and of the stations' fields. Refused by 2, 3, 4, 5 to 8 or 9, then station by station 10 or 11, 13.
@@ -58,6 +61,11 @@ pub fn sheet_length(vertices: usize, faces: usize, stations: usize) -> usize {
 /// # Ok::<(), physica::Refusal>(())
 /// ```
 pub fn write_sheet(body: Body, magnetisation: Vector, ambient: Vector, stations: &[Vector]) -> Result<Vec<u8>, Refusal> {
+    // Without room the writer judges the counts alone, and 12 means that they are within the limits: nothing is allocated for a sheet that 2 refuses.
+    let counts = write_sheet_into(body, magnetisation, ambient, stations, &mut [], &mut []);
+    if counts != Err(Refusal::TooShort) {
+        return counts.map(|_| Vec::new());
+    }
     let (v, f) = match body {
         Body::Mesh { verts, faces } => (verts.len(), faces.len()),
         Body::Prism { .. } => (2, 0),

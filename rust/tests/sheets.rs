@@ -77,6 +77,17 @@ fn too_little_room_is_refused_and_nothing_is_written() {
 }
 
 #[test]
+fn counts_over_their_limits_are_refused_before_anything_is_allocated() {
+    let stations = vec![[2.0, 0.25, 0.25]; 65_537];
+    assert_eq!(write_sheet(tetrahedron(), MAGNETISATION, AMBIENT, &stations), Err(Refusal::TooMany));
+    let faces = vec![[0, 1, 2]; 32_769];
+    assert_eq!(write_sheet(Body::Mesh { verts: &VERTS, faces: &faces }, MAGNETISATION, AMBIENT, &STATIONS), Err(Refusal::TooMany));
+    assert_eq!(sheet_length(4, 4, 2), 24 * 4 + 36 * 4 + 88 * 2 + 80);
+    assert_eq!(sheet_length(usize::MAX, 0, 0), usize::MAX);
+    assert_eq!(sheet_length(usize::MAX / 24, usize::MAX / 36, 1), usize::MAX);
+}
+
+#[test]
 fn refusals_carry_their_edge_or_face() {
     let mut work = [0; 12];
     assert_eq!(check_mesh(&VERTS, &FACES[..3], &mut work), Err(Refusal::Open { from: 1, to: 3 }));
