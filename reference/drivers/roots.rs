@@ -5,11 +5,11 @@ use std::time::Instant;
 
 #[link(name = "test_exports", kind = "static")]
 unsafe extern "C" {
-    fn physica_root(x: f64) -> f64;
+    fn test_root(x: f64) -> f64;
 }
 
 fn root(x: f64) -> f64 {
-    unsafe { physica_root(x) }
+    unsafe { test_root(x) }
 }
 
 /// Every NaN is the same.

@@ -3,7 +3,7 @@ ghost use mathlib.Core.Path.{_≡_};
 ghost use Rattle.roots.specs.Root.{Root};
 
 #[no_mangle]
-pub extern "C" fn physica_root(x: f64) -> f64
+pub extern "C" fn test_root(x: f64) -> f64
     ensures { λ r. ⌜ r ≡ Root x ⌝ }
 {
     roots::root(x)
