@@ -7,11 +7,13 @@ use Rattle.doubles.specs.Rounded.{_⊕_, _⊖_, _⊗_, _⊘_}
 use Rattle.doubles.specs.Constants.{0·0, 1·0, 2·0, 3·0, 7·0, 8·0, 9·0, 10·0, +∞}
 use Rattle.doubles.specs.Magnitude.{abs}
 use Rattle.roots.specs.Root.{Root}
-use Rattle.refusals.specs.Causes.{unless, causeOr}
+use Rattle.refusals.specs.Causes.{unless}
+use Rattle.refusals.specs.Answer.{Answer, orAnswer}
 use Rattle.refusals.specs.declared.Refusal.the-variants.{OutsideDomain, TooManyRounds}
 use Rattle.carlson.specs.Constants.{[3ε]^-⅛, 22·0, 159·0, 208·0}
 use Rattle.carlson.specs.Rounds.{rounds}
 use Rattle.carlson.specs.CarlsonLoop.{maxRounds, quarter, loopTest}
+use Rattle.carlson.specs.Answers.{integralAnswer}
 use Rattle.carlson.specs.declared.RoundC.{RoundC}
 use Rattle.carlson.specs.declared.Integral.{Integral}
 use Rattle.carlson.specs.declared.Integral.the-variants.{Value, Refused}
@@ -75,8 +77,8 @@ rc x y =
     (rcAbove x y))
 
 -- the public call, refused by 14 unless both are finite and x ≥ 0
-unfoldable pub carlsonRc : Float → Float → Integral
-carlsonRc x y = causeOr Refused (unless (finite x && finite y && le 0·0 x) OutsideDomain) (rc x y)
+unfoldable pub carlsonRc : Float → Float → Answer Float
+carlsonRc x y = orAnswer (unless (finite x && finite y && le 0·0 x) OutsideDomain) (integralAnswer (rc x y))
 
 -- its value, and d where it is refused
 abbrev pub valueOr : Float → Integral → Float

@@ -8,6 +8,7 @@ ghost use lib.Ieee.Positive.{positive};
 ghost use Rattle.roots.specs.Root.{Root};
 ghost use Rattle.carlson.specs.CarlsonLoop.{maxRounds, loopTest};
 ghost use Rattle.carlson.specs.Rounds.{rounds};
+ghost use Rattle.carlson.specs.Answers.{integralAnswer};
 ghost use Rattle.carlson.specs.Rc.{duplicateC, testC, seriesC, rcAbove, timesIntegral, rc, carlsonRc, rcValue};
 ghost use Rattle.carlson.specs.Logarithm.{lnAt, ln};
 ghost use Rattle.carlson.specs.LogarithmOfBits.{lnOfBits};
@@ -146,7 +147,7 @@ pub fn rc(x: f64, y: f64) -> Integral
 // Carlson's R_C(x, y), for finite arguments with x ≥ 0: refused by 14 outside that domain, and by 15
 // where the loop's test still holds after MAX_ROUNDS.
 pub fn carlson_rc(x: f64, y: f64) -> Integral
-    ensures { λ r. ⌜ r ≡ carlsonRc x y ⌝ }
+    ensures { λ r. ⌜ integralAnswer r ≡ carlsonRc x y ⌝ }
 {
     if doubles::is_finite(x) & doubles::is_finite(y) & (0.0 <= x) {
         return rc(x, y);

@@ -2,20 +2,19 @@
 -- Assumes nothing.
 use mathlib.Core.Path.{_≡_, refl, _∙_}
 use mathlib.Core.Logic.{_⊎_, inl, inr, ⊎-elim}
-use mathlib.Core.Bool.{_&&_}
 use Prim.Native.Nat.{ℕ, zero, suc, _<_, _≤_}
 use native.Mathlib.Nat.{le-of-suc-le-suc, not-suc-le-zero, eq-or-lt-of-le}
 use native.Mathlib.Omega.{arith}
 use borrow.Author.Tests.{le-leb, lt-leb}
-use lib.Dec.{leb}
 use lib.ListN.{length, getD, length-set}
 use lib.Seq.{getD-set-same, getD-set-other}
 use lib.Ieee.{Float}
-use Rattle.refusals.specs.Causes.{unless}
+use Rattle.refusals.specs.Answer.{value, orAnswer}
 use Rattle.refusals.specs.declared.Cause.{Cause}
 use Rattle.refusals.specs.declared.Cause.the-variants.{None, Refused}
 use Rattle.refusals.specs.declared.Refusal.the-variants.{OutsideDomain}
-use Rattle.legendre.specs.GaussLegendre.{maxOrder, node, weight, zeros, padded, ruleOr, gaussLegendre}
+use Rattle.legendre.specs.Answers.{ruleAnswer}
+use Rattle.legendre.specs.GaussLegendre.{maxOrder, node, weight, zeros, padded, ruleOr, ruleCause, gaussLegendre, ruleOf}
 
 -- ---- accepted or refused
 
@@ -27,6 +26,15 @@ pub refused : (n : ℕ) → (n < 1) ⊎ (maxOrder < n) → gaussLegendre n ≡ r
 unfolding gaussLegendre
 refused n (inl h) = simp (lt-leb 1 n h)
 refused n (inr h) = let p : 1 ≤ n = omega arith in simp (le-leb 1 n p, lt-leb n maxOrder h)
+
+rule-answer-or : (c : Cause) (n : ℕ) → ruleAnswer (ruleOr c n) ≡ orAnswer c (value (ruleOr None n))
+rule-answer-or None n = refl
+rule-answer-or (Refused r) n = refl
+
+-- the answer of the call's rule
+pub rule-answer : (n : ℕ) → ruleAnswer (gaussLegendre n) ≡ ruleOf n
+unfolding gaussLegendre ruleOf
+rule-answer n = rule-answer-or (ruleCause n) n
 
 pub count-is : (n : ℕ) → 1 ≤ n → n ≤ maxOrder → gaussLegendre n .count ≡ n
 count-is n p h = rw (accepted n p h)
@@ -45,11 +53,11 @@ lengths (Refused r) n = (refl, refl)
 
 pub length-nodes : (n : ℕ) → length (gaussLegendre n .nodes) ≡ maxOrder
 unfolding gaussLegendre
-length-nodes n = lengths (unless (leb 1 n && leb n maxOrder) OutsideDomain) n .0
+length-nodes n = lengths (ruleCause n) n .0
 
 pub length-weights : (n : ℕ) → length (gaussLegendre n .weights) ≡ maxOrder
 unfolding gaussLegendre
-length-weights n = lengths (unless (leb 1 n && leb n maxOrder) OutsideDomain) n .1
+length-weights n = lengths (ruleCause n) n .1
 
 -- ---- the elements below the count
 

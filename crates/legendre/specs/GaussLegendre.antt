@@ -7,6 +7,7 @@ use lib.ListN.{getD, set, replicate}
 use lib.Ieee.{Float, binary64, ofBits}
 use Rattle.doubles.specs.Constants.{0·0}
 use Rattle.refusals.specs.Causes.{unless}
+use Rattle.refusals.specs.Answer.{Answer, value, orAnswer}
 use Rattle.refusals.specs.declared.Cause.{Cause}
 use Rattle.refusals.specs.declared.Cause.the-variants.{None, Refused}
 use Rattle.refusals.specs.declared.Refusal.the-variants.{OutsideDomain}
@@ -41,6 +42,14 @@ abbrev pub ruleOr : Cause → ℕ → Rule
 ruleOr None n = record { cause = None; count = n; nodes = padded n (node n); weights = padded n (weight n) }
 ruleOr (Refused r) n = record { cause = Refused r; count = 0; nodes = zeros; weights = zeros }
 
--- the public call, refused by 14 unless 1 ≤ n ≤ 16
+-- refused by 14 unless 1 ≤ n ≤ 16
+abbrev pub ruleCause : ℕ → Cause
+ruleCause n = unless (leb 1 n && leb n maxOrder) OutsideDomain
+
+-- the public call, with zeros under a refusal
 unfoldable pub gaussLegendre : ℕ → Rule
-gaussLegendre n = ruleOr (unless (leb 1 n && leb n maxOrder) OutsideDomain) n
+gaussLegendre n = ruleOr (ruleCause n) n
+
+-- its answer: the refusal, or else the rule of the order n
+unfoldable pub ruleOf : ℕ → Answer Rule
+ruleOf n = orAnswer (ruleCause n) (value (ruleOr None n))

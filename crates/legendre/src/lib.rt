@@ -8,7 +8,8 @@ ghost use mathlib.Core.Path.{_≡_};
 ghost use Prim.Native.Nat.{_+_, _≤_};
 ghost use lib.ListN.{length};
 ghost use Rattle.legendre.specs.Table.{table};
-ghost use Rattle.legendre.specs.GaussLegendre.{maxOrder, entry, padded, ruleOr, gaussLegendre};
+ghost use Rattle.legendre.specs.Answers.{ruleAnswer};
+ghost use Rattle.legendre.specs.GaussLegendre.{maxOrder, entry, padded, ruleOr, gaussLegendre, ruleOf};
 
 pub const MAX_ORDER: usize = 16;
 
@@ -52,6 +53,7 @@ fn refused() -> Rule
 // The rule of an order. Outside 1 to 16 it is refused by 14.
 pub fn gauss_legendre(order: u32) -> Rule
     ensures { λ r. ⌜ r ≡ gaussLegendre order ⌝ }
+    ensures { λ r. ⌜ ruleAnswer r ≡ ruleOf order ⌝ }
 {
     let n = order as usize;
     if n < 1 {

@@ -3,14 +3,13 @@ use mathlib.Core.Bool.{Bool, _&&_}
 use lib.Ieee.{Float, lt}
 use lib.Ieee.Scale.{finite}
 use Rattle.doubles.specs.Constants.{0·0}
-use Rattle.refusals.specs.Causes.{unless, causeOr}
+use Rattle.refusals.specs.Causes.{unless}
+use Rattle.refusals.specs.Answer.{Answer, value, orAnswer}
 use Rattle.refusals.specs.declared.Refusal.the-variants.{OutsideDomain}
-use Rattle.carlson.specs.declared.Integral.{Integral}
-use Rattle.carlson.specs.declared.Integral.the-variants.{Value, Refused}
 use Rattle.special_bulirsch.specs.Bulirsch.{celOf}
 
 unfoldable pub fourFinite : Float → Float → Float → Float → Bool
 fourFinite kc p a b = finite kc && finite p && finite a && finite b
 
-unfoldable pub cel : Float → Float → Float → Float → Integral
-cel kc p a b = causeOr Refused (unless (fourFinite kc p a b && lt 0·0 p) OutsideDomain) (Value (celOf kc p a b))
+unfoldable pub cel : Float → Float → Float → Float → Answer Float
+cel kc p a b = orAnswer (unless (fourFinite kc p a b && lt 0·0 p) OutsideDomain) (value (celOf kc p a b))

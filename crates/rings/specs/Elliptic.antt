@@ -6,13 +6,12 @@ use lib.Ieee.{Float, lt, le}
 use Rattle.doubles.specs.Rounded.{_⊕_, _⊖_, _⊗_, _⊘_}
 use Rattle.doubles.specs.Constants.{0·0, 0·5, 1·0, 2·0, ε, π/2}
 use Rattle.roots.specs.Root.{Root}
-use Rattle.refusals.specs.Causes.{unless, causeOr}
+use Rattle.refusals.specs.Causes.{unless}
+use Rattle.refusals.specs.Answer.{Answer, value, orAnswer}
 use Rattle.refusals.specs.declared.Refusal.the-variants.{OutsideDomain}
 use Rattle.carlson.specs.Rounds.{rounds}
 use Rattle.rings.specs.declared.Mean.{Mean}
 use Rattle.rings.specs.declared.Complete.{Complete}
-use Rattle.rings.specs.declared.CompleteIntegrals.{CompleteIntegrals}
-use Rattle.rings.specs.declared.CompleteIntegrals.the-variants.{Values, Refused}
 
 -- the Rust ends the loop after so many rounds, and refuses nothing
 abbrev pub maxMeans : ℕ
@@ -41,5 +40,5 @@ elliptic m =
     record { k = K; e = K ⊗ (1·0 ⊖ s .sum) }
 
 -- the public call, refused by 14 unless 0 ≤ m < 1
-unfoldable pub completeElliptic : Float → CompleteIntegrals
-completeElliptic m = causeOr Refused (unless (le 0·0 m && lt m 1·0) OutsideDomain) (Values (elliptic m))
+unfoldable pub completeElliptic : Float → Answer Complete
+completeElliptic m = orAnswer (unless (le 0·0 m && lt m 1·0) OutsideDomain) (value (elliptic m))

@@ -7,14 +7,13 @@ use Rattle.doubles.specs.Rounded.{_⊕_, _⊖_, _⊗_, _⊘_}
 use Rattle.doubles.specs.Constants.{0·0, 0·5, 1·0, 2·0, 4·0, 9·0, 24·0, π}
 use Rattle.doubles.specs.Magnitude.{withinLimits}
 use Rattle.roots.specs.Root.{Root}
-use Rattle.refusals.specs.Causes.{orElse, unless, causeOr}
+use Rattle.refusals.specs.Causes.{orElse, unless}
+use Rattle.refusals.specs.Answer.{Answer, value, orAnswer}
 use Rattle.refusals.specs.declared.Refusal.the-variants.{OutOfLimits, OutsideDomain}
 use Rattle.rings.specs.Constants.{9e-8, 16·0, 72·0}
 use Rattle.rings.specs.Elliptic.{elliptic}
 use Rattle.special_bulirsch.specs.Bulirsch.{celOf}
 use Rattle.rings.specs.declared.RingAverage.{RingAverage}
-use Rattle.rings.specs.declared.RingAnswer.{RingAnswer}
-use Rattle.rings.specs.declared.RingAnswer.the-variants.{Value, Refused}
 
 -- s = (R + ρ)² + z² and d = (R - ρ)² + z², the squares of the distances to the ring's farthest and nearest points
 abbrev pub farSquared : Float → Float → Float → Float
@@ -76,6 +75,6 @@ unfoldable pub ringWithinLimits : Float → Float → Float → Bool
 ringWithinLimits R ρ z = withinLimits R && withinLimits ρ && withinLimits z
 
 -- the public call, refused by 3, and by 14 outside the domain
-unfoldable pub ring : Float → Float → Float → RingAnswer
+unfoldable pub ring : Float → Float → Float → Answer RingAverage
 ring R ρ z =
-    causeOr Refused (orElse (unless (ringWithinLimits R ρ z) OutOfLimits) (unless (ringInDomain R ρ z) OutsideDomain)) (Value (ringAt R ρ z))
+    orAnswer (orElse (unless (ringWithinLimits R ρ z) OutOfLimits) (unless (ringInDomain R ρ z) OutsideDomain)) (value (ringAt R ρ z))

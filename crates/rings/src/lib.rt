@@ -3,6 +3,8 @@ use carlson::Integral;
 use refusals::Refusal;
 ghost use mathlib.Core.Path.{_≡_};
 ghost use Rattle.carlson.specs.Rounds.{rounds};
+ghost use Rattle.carlson.specs.Answers.{integralAnswer};
+ghost use Rattle.rings.specs.Answers.{completeAnswer, ringAnswer};
 ghost use Rattle.rings.specs.Elliptic.{maxMeans, nextMean, meanTest, elliptic, completeElliptic};
 ghost use Rattle.rings.specs.Cel.{fourFinite, cel};
 ghost use Rattle.rings.specs.Ring.{farSquared, nearSquared, ringParameter, nearAxis, offAxis, ∂ρ, ringAt, ringWithinLimits, ring};
@@ -103,7 +105,7 @@ pub fn elliptic(m: f64) -> Complete
 
 // The complete elliptic integrals K(m) and E(m), for 0 ≤ m < 1: refused by 14 outside that domain.
 pub fn complete_elliptic(m: f64) -> CompleteIntegrals
-    ensures { λ r. ⌜ r ≡ completeElliptic m ⌝ }
+    ensures { λ r. ⌜ completeAnswer r ≡ completeElliptic m ⌝ }
 {
     if (0.0 <= m) & (m < 1.0) {
         return CompleteIntegrals::Values(elliptic(m));
@@ -121,7 +123,7 @@ fn four_finite(kc: f64, p: f64, a: f64, b: f64) -> bool
 
 // Bulirsch's cel(k_c, p, a, b), for finite arguments and p > 0: refused by 14 outside that domain.
 pub fn cel(kc: f64, p: f64, a: f64, b: f64) -> Integral
-    ensures { λ r. ⌜ r ≡ cel kc p a b ⌝ }
+    ensures { λ r. ⌜ integralAnswer r ≡ cel kc p a b ⌝ }
 {
     if four_finite(kc, p, a, b) & (0.0 < p) {
         return Integral::Value(special_bulirsch::cel_of(kc, p, a, b));
@@ -191,7 +193,7 @@ fn ring_within_limits(radius: f64, rho: f64, z: f64) -> bool
 // The average of 1/r over a ring, seen from (ρ, z), and its gradient: refused by 3, and by 14 unless
 // radius > 0, rho ≥ 0, and d > 0 and m < 1 as computed.
 pub fn ring(radius: f64, rho: f64, z: f64) -> RingAnswer
-    ensures { λ r. ⌜ r ≡ ring radius rho z ⌝ }
+    ensures { λ r. ⌜ ringAnswer r ≡ ring radius rho z ⌝ }
 {
     if ring_within_limits(radius, rho, z) {
         let s = (radius + rho) * (radius + rho) + z * z;

@@ -3,10 +3,10 @@ use mathlib.Core.Bool.{Bool, not, _&&_, _||_, cond}
 use lib.Ieee.{Float, lt, le, eq}
 use lib.Ieee.Scale.{finite}
 use Rattle.doubles.specs.Constants.{0·0}
-use Rattle.refusals.specs.Causes.{unless, causeOr}
+use Rattle.refusals.specs.Causes.{unless}
+use Rattle.refusals.specs.Answer.{Answer, orAnswer}
 use Rattle.refusals.specs.declared.Refusal.the-variants.{OutsideDomain}
-use Rattle.carlson.specs.declared.Integral.{Integral}
-use Rattle.carlson.specs.declared.Integral.the-variants.{Refused}
+use Rattle.carlson.specs.Answers.{integralAnswer}
 use Rattle.special_rf_rd.specs.Rf.{rf}
 use Rattle.special_rf_rd.specs.Rd.{rd}
 use Rattle.special_rj.specs.Rj.{rj}
@@ -20,11 +20,11 @@ moreThanOneZero x y z = cond (eq x 0·0) (eq y 0·0 || eq z 0·0) (eq y 0·0 && 
 unfoldable pub inDomain : Float → Float → Float → Bool
 inDomain x y z = finiteNotBelowZero x && finiteNotBelowZero y && finiteNotBelowZero z && not (moreThanOneZero x y z)
 
-unfoldable pub carlsonRf : Float → Float → Float → Integral
-carlsonRf x y z = causeOr Refused (unless (inDomain x y z) OutsideDomain) (rf x y z)
+unfoldable pub carlsonRf : Float → Float → Float → Answer Float
+carlsonRf x y z = orAnswer (unless (inDomain x y z) OutsideDomain) (integralAnswer (rf x y z))
 
-unfoldable pub carlsonRd : Float → Float → Float → Integral
-carlsonRd x y z = causeOr Refused (unless (inDomain x y z && lt 0·0 z) OutsideDomain) (rd x y z)
+unfoldable pub carlsonRd : Float → Float → Float → Answer Float
+carlsonRd x y z = orAnswer (unless (inDomain x y z && lt 0·0 z) OutsideDomain) (integralAnswer (rd x y z))
 
-unfoldable pub carlsonRj : Float → Float → Float → Float → Integral
-carlsonRj x y z p = causeOr Refused (unless (inDomain x y z && finite p) OutsideDomain) (rj x y z p)
+unfoldable pub carlsonRj : Float → Float → Float → Float → Answer Float
+carlsonRj x y z p = orAnswer (unless (inDomain x y z && finite p) OutsideDomain) (integralAnswer (rj x y z p))

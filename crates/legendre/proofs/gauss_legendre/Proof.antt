@@ -1,11 +1,14 @@
 -- `legendre::gauss_legendre` meets its contract. The table of the code is that of the definition by `refl`. Assumes nothing.
-use mathlib.Core.Path.{refl, sym, _∙_}
+use mathlib.Core.Path.{_≡_, refl, sym, ap, _∙_}
+use Prim.Native.Nat.{ℕ}
 use mathlib.Core.Logic.{inl, inr}
 use native.Mathlib.Omega.{arith}
 use borrow.Author.Needs.{needs}
 use Rattle.legendre.specs.Table.{table}
-use Rattle.legendre.specs.GaussLegendre.{node, weight}
-use Rattle.legendre.proofs.Answer.{accepted, refused}
+use Rattle.legendre.specs.Answers.{ruleAnswer}
+use Rattle.legendre.specs.declared.Rule.{Rule}
+use Rattle.legendre.specs.GaussLegendre.{node, weight, gaussLegendre, ruleOf}
+use Rattle.legendre.proofs.Answer.{accepted, refused, rule-answer}
 use Rattle.legendre.proofs.Entries.{entries, square}
 use Rattle.legendre.proofs.gauss_legendre.Statement.{statement}
 use Rattle.legendre.proofs.gauss_legendre.Tie as tie
@@ -14,11 +17,15 @@ use Rattle.legendre.proofs.gauss_legendre.Tie as tie
 abbrev start : tie.After-t2 → tie.Start
 start c = c .before .before .before .before .before
 
+-- the second clause follows from the first
+both : {r : Rule} (n : ℕ) → r ≡ gaussLegendre n → (r ≡ gaussLegendre n) × (ruleAnswer r ≡ ruleOf n)
+both n e = (e, ap ruleAnswer e ∙ rule-answer n)
+
 returns : tie.Need-returns
-returns c = c .refused .ensures ∙ sym (refused _ (inl (omega arith)))
+returns c = both _ (c .refused .ensures ∙ sym (refused _ (inl (omega arith))))
 
 returns-2 : tie.Need-returns-2
-returns-2 c = c .refused2 .ensures ∙ sym (refused _ (inr (omega arith)))
+returns-2 c = both _ (c .refused2 .ensures ∙ sym (refused _ (inr (omega arith))))
 
 mul-padded : tie.Need-mul-padded
 mul-padded c = let s = square (c .before .before .before .args .order) (omega arith) (omega arith) in omega (arith, entries)
@@ -40,8 +47,8 @@ padded-requires-2 c κs = let s = square (start c .args .order) (omega arith) (o
 returns-3 : tie.Need-returns-3
 unfolding node weight
 returns-3 c =
-    simp (c .before .before .padded .ensures, c .padded2 .ensures)
-    (sym (accepted (start (c .before) .args .order) (omega arith) (omega arith)))
+    let n = start (c .before) .args .order in
+    both n (simp (c .before .before .padded .ensures, c .padded2 .ensures) (sym (accepted n (omega arith) (omega arith))))
 
 pub gauss-legendre-spec : {M : Type 1} → statement M
 gauss-legendre-spec =

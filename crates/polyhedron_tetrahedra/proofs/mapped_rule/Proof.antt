@@ -9,7 +9,7 @@ use Rattle.polyhedron_tetrahedra.proofs.mapped_rule.Tie as tie
 returns : tie.Need-returns
 unfolding mappedRule
 returns c = simp (
-  c .before .before .gauss-legendre .ensures,
+  c .before .before .gauss-legendre .ensures .0,
   map-node 0 (lit≤ tt),
   map-node 1 (lit≤ tt),
   map-node 2 (lit≤ tt),

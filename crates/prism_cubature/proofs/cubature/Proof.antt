@@ -33,8 +33,8 @@ add-layer-requires c κs =
     let z = gauss-legendre3 (after-offset c .before .before .before) in
     let y = z .before in
     let a = y .before .before in (
-      (a .pre .1, simp (y .gauss-legendre2 .ensures), simp (y .gauss-legendre2 .ensures)),
-      (a .pre .2, simp (z .gauss-legendre3 .ensures), simp (z .gauss-legendre3 .ensures)),
+      (a .pre .1, simp (y .gauss-legendre2 .ensures .0), simp (y .gauss-legendre2 .ensures .0)),
+      (a .pre .2, simp (z .gauss-legendre3 .ensures .0), simp (z .gauss-legendre3 .ensures .0)),
     )
 
 loop-again : tie.Need-loop-again Inv-loop μ-loop
@@ -46,8 +46,8 @@ loop-again c =
     let a = g .before in
     let i = b .loop .i in
     let l = a .args .l in
-    let u : getD (g .gauss-legendre .result .nodes) i nan ≡ node l i = simp (g .gauss-legendre .ensures) (node-at l i nan (a .pre .0) (t .loop-test .taken)) in
-    let v : getD (g .gauss-legendre .result .weights) i nan ≡ weight l i = simp (g .gauss-legendre .ensures) (weight-at l i nan (a .pre .0) (t .loop-test .taken)) in (
+    let u : getD (g .gauss-legendre .result .nodes) i nan ≡ node l i = simp (g .gauss-legendre .ensures .0) (node-at l i nan (a .pre .0) (t .loop-test .taken)) in
+    let v : getD (g .gauss-legendre .result .weights) i nan ≡ weight l i = simp (g .gauss-legendre .ensures .0) (weight-at l i nan (a .pre .0) (t .loop-test .taken)) in (
       omega (arith, t .loop-test .taken),
       rw fold-more (simp (c .add-layer .ensures, offset .offset .ensures, b .before .before .half-widths .ensures, u, v, b .loop .inv .1)),
     )
