@@ -13,7 +13,7 @@ use Rattle.refusals.specs.declared.Refusal.the-variants.{Malformed, TooMany, To
 use Rattle.refusals.specs.declared.Cause.{Cause}
 use Rattle.refusals.specs.Numbers.{numberOf}
 use Rattle.refusals.specs.Causes.{orElse, unless, firstOf}
-use Rattle.refusals.specs.Answer.{Answer, value, refused}
+use Rattle.refusals.specs.Answer.{Answer, value, refused, orAnswer}
 use Rattle.lists.specs.Count.{count}
 use Rattle.mesh_orders.specs.Edges.{maxVertices, maxFaces, from, to, occurrences}
 use Rattle.mesh_orders.specs.Order.{orderList}
@@ -115,18 +115,19 @@ meshCause v f n = orElse (countCause v f n) (orElse (outOfLimits v) (surfaceCaus
 
 -- ---- the answer
 
--- a cause's refusal, or else the volume, of a mesh or a prism
-abbrev pub solidOf : Cause → Float → Solid
-solidOf Cause.None x = Solid.Volume x
-solidOf (Cause.Refused r) x = Solid.Refused r
-
 -- the answer, for a work list of n entries
-unfoldable pub checkMesh : List Float → List ℕ → ℕ → Solid
-checkMesh v f n = solidOf (meshCause v f n) (volume v f)
+unfoldable pub checkMesh : List Float → List ℕ → ℕ → Answer Float
+checkMesh v f n = orAnswer (meshCause v f n) (value (volume v f))
 
+-- the answer of each case of `Solid`
 abbrev pub answerOf : Solid → Answer Float
 answerOf (Solid.Volume x) = value x
 answerOf (Solid.Refused r) = refused r
+
+-- the case of a cause's refusal, or else of the volume, of a mesh or a prism: what the inner functions return
+abbrev pub solidOf : Cause → Float → Solid
+solidOf Cause.None x = Solid.Volume x
+solidOf (Cause.Refused r) x = Solid.Refused r
 
 -- ---- the work list, a term of document 01: lent, for the order list
 

@@ -6,7 +6,7 @@ ghost use mathlib.Core.Path.{_≡_};
 ghost use lib.ListN.{length};
 ghost use Rattle.mesh_orders.specs.Order.{orderList};
 ghost use Rattle.mesh.specs.Surface.{Body, vertexCount, volume};
-ghost use Rattle.mesh.specs.Check.{surfaceCause, meshCause, solidOf, checkMesh, workAfter};
+ghost use Rattle.mesh.specs.Check.{surfaceCause, meshCause, solidOf, checkMesh, answerOf, workAfter};
 ghost use Rattle.mesh.specs.Accepted.{Counted};
 ghost use Rattle.mesh_check.specs.CheckOrder.{checkOrder};
 use mesh::Solid;
@@ -67,7 +67,7 @@ pub fn check_surface(verts: &[f64], faces: &[u32], work: &mut [u32]) -> Solid
 // Checks that the faces form a closed, consistently wound, outward-facing surface, and returns its volume. verts has three coordinates to a vertex, faces three vertex
 // numbers to a face, and work, which is lent, three entries or more to a face: the order list afterwards.
 pub fn check_mesh(verts: &[f64], faces: &[u32], work: &mut [u32]) -> Solid
-    ensures { λ r. ⌜ r ≡ checkMesh (now (verts .entry)) (now (faces .entry)) (length (now (work .entry))) ⌝ }
+    ensures { λ r. ⌜ answerOf r ≡ checkMesh (now (verts .entry)) (now (faces .entry)) (length (now (work .entry))) ⌝ }
     ensures { λ r. ⌜ now (work .exit) ≡ workAfter (meshCause (now (verts .entry)) (now (faces .entry)) (length (now (work .entry)))) (now (faces .entry)) (now (work .entry)) ⌝ }
 {
     let counts = mesh::count_cause(verts, faces, work.len());

@@ -16,6 +16,7 @@ use Rattle.refusals.specs.declared.Cause.{Cause}
 use Rattle.refusals.specs.declared.Cause.the-variants.{None, Refused}
 use Rattle.refusals.specs.Numbers.{numberOf}
 use Rattle.refusals.specs.Causes.{orElse}
+use Rattle.refusals.specs.Answer.{Answer, value, refused, orAnswer}
 use Rattle.refusals.proofs.Causes.{both}
 use Rattle.mesh_orders.specs.Edges.{occurrences}
 use Rattle.mesh_orders.specs.Order.{orderList}
@@ -40,45 +41,53 @@ pub solid-refused : (c : Cause) (y : Float) (r : Refusal) → solidOf c y ≡ So
 solid-refused None y r e = absurd (let z : _≡_ {A = ℕ} 0 1 = cc in omega arith)
 solid-refused (Refused s) y r e = ap {B = Cause} Refused (let z : s ≡ r = cc in z)
 
+answer-value : (c : Cause) (y x : Float) → orAnswer c (value y) ≡ value x → (c ≡ None) × (x ≡ y)
+answer-value None y x e = (refl, cc)
+answer-value (Refused r) y x e = absurd (let z : _≡_ {A = ℕ} 0 1 = cc in omega arith)
+
+pub answer-refused : (c : Cause) (y : Float) (r : Refusal) → orAnswer c (value y) ≡ refused r → c ≡ Refused r
+answer-refused None y r e = absurd (let z : _≡_ {A = ℕ} 0 1 = cc in omega arith)
+answer-refused (Refused s) y r e = ap {B = Cause} Refused (let z : s ≡ r = cc in z)
+
 module _ (v : List Float) (f : List ℕ) (n : ℕ) where
   -- of a sound mesh the causes 5 to 8 give the answer
-  answer : Sound v f n → (c : Cause) → orderCause v f (orderList f) ≡ c → checkMesh v f n ≡ solidOf c (volume v f)
+  answer : Sound v f n → (c : Cause) → orderCause v f (orderList f) ≡ c → checkMesh v f n ≡ orAnswer c (value (volume v f))
   unfolding checkMesh
-  answer s c e = ap (λ (d : Cause). solidOf d (volume v f)) (sound-order v f n s ∙ e)
+  answer s c e = ap (λ (d : Cause). orAnswer d (value (volume v f))) (sound-order v f n s ∙ e)
 
-  late : (r : Refusal) → 5 ≤ numberOf r → numberOf r ≤ 8 → checkMesh v f n ≡ Solid.Refused r → Sound v f n × (orderCause v f (orderList f) ≡ Refused r)
+  late : (r : Refusal) → 5 ≤ numberOf r → numberOf r ≤ 8 → checkMesh v f n ≡ refused r → Sound v f n × (orderCause v f (orderList f) ≡ Refused r)
   unfolding checkMesh
-  late r lo hi e = late-sound v f n r lo hi (solid-refused (meshCause v f n) (volume v f) r e)
+  late r lo hi e = late-sound v f n r lo hi (answer-refused (meshCause v f n) (volume v f) r e)
 
   -- the causes after 5
   abbrev after-flipped : Cause
   after-flipped = orElse (openEdge f (orderList f)) (facesCause v f)
 
   -- accepted
-  pub accepted : (x : Float) → checkMesh v f n ≡ Solid.Volume x → Accepted v f n x
+  pub accepted : (x : Float) → checkMesh v f n ≡ value x → Accepted v f n x
   unfolding checkMesh
   accepted x e =
-      let m = solid-volume (meshCause v f n) (volume v f) x e in
+      let m = answer-value (meshCause v f n) (volume v f) x e in
       let s = none-sound v f n (m .0) in
       let c = none-order v f (sound-body v f n (s .0) .faces) (s .1) in
       record { sound = s .0; closed = c .0; normals = c .1; positive = c .2; answer = m .1 }
 
-  pub accepts : (x : Float) → Accepted v f n x → checkMesh v f n ≡ Solid.Volume x
+  pub accepts : (x : Float) → Accepted v f n x → checkMesh v f n ≡ value x
   accepts x h =
       answer (h .sound) None (order-none v f (sound-body v f n (h .sound) .faces) (h .closed, h .normals, h .positive))
-      ∙ ap {B = Solid} Solid.Volume (sym (h .answer))
+      ∙ ap {B = Answer Float} value (sym (h .answer))
 
   -- and its work list starts with the order list
-  pub accepted-work : (w : List ℕ) (x : Float) → checkMesh v f n ≡ Solid.Volume x
+  pub accepted-work : (w : List ℕ) (x : Float) → checkMesh v f n ≡ value x
       → workAfter (meshCause v f n) f w ≡ orderList f ++ drop (length f) w
   unfolding checkMesh workAfter
-  accepted-work w x e = rw (solid-volume (meshCause v f n) (volume v f) x e .0)
+  accepted-work w x e = rw (answer-value (meshCause v f n) (volume v f) x e .0)
 
   pub work-front : (w : List ℕ) → take (length f) (orderList f ++ drop (length f) w) ≡ orderList f
   work-front w = take-at (orderList f) (drop (length f) w) (length f) (order-length f)
 
   -- Flipped
-  pub flipped : (a b : ℕ) → checkMesh v f n ≡ Solid.Refused (Flipped a b) → Sound v f n × SmallestTwice f a b
+  pub flipped : (a b : ℕ) → checkMesh v f n ≡ refused (Flipped a b) → Sound v f n × SmallestTwice f a b
   unfolding orderCause
   flipped a b e =
       let s = late (Flipped a b) (omega arith) (omega arith) e in (
@@ -87,12 +96,12 @@ module _ (v : List Float) (f : List ℕ) (n : ℕ) where
             (decided (NumberWithin 6 8) (flippedEdge f (orderList f)) after-flipped (Flipped a b) (only-after-flipped v f (orderList f)) (λ q. omega (arith, q .0)) (s .1)),
       )
 
-  pub flips : (a b : ℕ) → Sound v f n → SmallestTwice f a b → checkMesh v f n ≡ Solid.Refused (Flipped a b)
+  pub flips : (a b : ℕ) → Sound v f n → SmallestTwice f a b → checkMesh v f n ≡ refused (Flipped a b)
   unfolding orderCause
   flips a b s m = answer s (Refused (Flipped a b)) (rw (smallest-flipped f (sound-body v f n s .faces) a b m))
 
   -- Open
-  pub is-open : (a b : ℕ) → checkMesh v f n ≡ Solid.Refused (Open a b) → Sound v f n × ((c d : ℕ) → occurrences f c d ≤ 1) × SmallestOpen f a b
+  pub is-open : (a b : ℕ) → checkMesh v f n ≡ refused (Open a b) → Sound v f n × ((c d : ℕ) → occurrences f c d ≤ 1) × SmallestOpen f a b
   unfolding orderCause
   is-open a b e =
       let s = late (Open a b) (omega arith) (omega arith) e in
@@ -104,12 +113,12 @@ module _ (v : List Float) (f : List ℕ) (n : ℕ) where
             (decided (NumberWithin 7 8) (openEdge f (orderList f)) (facesCause v f) (Open a b) (only-faces v f) (λ q. omega (arith, q .0)) (t .1)),
       )
 
-  pub opens : (a b : ℕ) → Sound v f n → ((c d : ℕ) → occurrences f c d ≤ 1) → SmallestOpen f a b → checkMesh v f n ≡ Solid.Refused (Open a b)
+  pub opens : (a b : ℕ) → Sound v f n → ((c d : ℕ) → occurrences f c d ≤ 1) → SmallestOpen f a b → checkMesh v f n ≡ refused (Open a b)
   unfolding orderCause
   opens a b s o m = let h = sound-body v f n s .faces in answer s (Refused (Open a b)) (rw (flipped-none f h o, smallest-open f h a b m))
 
   -- Degenerate
-  pub degenerate : (k : ℕ) → checkMesh v f n ≡ Solid.Refused (Degenerate k) → Sound v f n × Closed f × FirstDegenerate v f k
+  pub degenerate : (k : ℕ) → checkMesh v f n ≡ refused (Degenerate k) → Sound v f n × Closed f × FirstDegenerate v f k
   unfolding orderCause facesCause
   degenerate k e =
       let s = late (Degenerate k) (omega arith) (omega arith) e in
@@ -121,12 +130,12 @@ module _ (v : List Float) (f : List ℕ) (n : ℕ) where
             (decided (NumberWithin 8 8) (degenerateFace v f) (inverted v f) (Degenerate k) (only-inverted v f) (λ q. omega (arith, q .0)) (u .1)),
       )
 
-  pub degenerates : (k : ℕ) → Sound v f n → Closed f → FirstDegenerate v f k → checkMesh v f n ≡ Solid.Refused (Degenerate k)
+  pub degenerates : (k : ℕ) → Sound v f n → Closed f → FirstDegenerate v f k → checkMesh v f n ≡ refused (Degenerate k)
   unfolding orderCause facesCause
   degenerates k s c d = let z = closed-none f (sound-body v f n s .faces) c in answer s (Refused (Degenerate k)) (rw (z .0, z .1, first-degenerate v f k d))
 
   -- Inverted
-  pub is-inverted : checkMesh v f n ≡ Solid.Refused Inverted
+  pub is-inverted : checkMesh v f n ≡ refused Inverted
       → Sound v f n × Closed f × ((k : ℕ) → k < faceCount f → isZero (normal v f k) ≡ false) × (lt 0·0 (volume v f) ≡ false)
   unfolding orderCause facesCause
   is-inverted e =
@@ -136,7 +145,7 @@ module _ (v : List Float) (f : List ℕ) (n : ℕ) where
       let w = skip (NumberWithin 7 7) (degenerateFace v f) (inverted v f) Inverted (only-degenerate v f) (λ q. omega (arith, q .1)) (u .1) in
       (s .0, none-closed f (sound-body v f n (s .0) .faces) (t .0) (u .0), none-degenerate v f (w .0), not-positive v f (w .1))
 
-  pub inverts : Sound v f n → Closed f → ((k : ℕ) → k < faceCount f → isZero (normal v f k) ≡ false) → lt 0·0 (volume v f) ≡ false → checkMesh v f n ≡ Solid.Refused Inverted
+  pub inverts : Sound v f n → Closed f → ((k : ℕ) → k < faceCount f → isZero (normal v f k) ≡ false) → lt 0·0 (volume v f) ≡ false → checkMesh v f n ≡ refused Inverted
   unfolding orderCause facesCause inverted
   inverts s c d p = let z = closed-none f (sound-body v f n s .faces) c in answer s (Refused Inverted) (rw (z .0, z .1, degenerate-none v f d, p))
 

@@ -23,7 +23,7 @@ use Rattle.mesh.specs.Surface.{Body, volume}
 use Rattle.mesh.specs.Accepted.{Counted}
 use Rattle.mesh.specs.CauseLaws.{none-count}
 use Rattle.mesh.specs.Check.{countCause, outOfLimits, surfaceCause, meshCause, solidOf, checkMesh, leavesWork, workAfter}
-use Rattle.mesh_laws.specs.Laws.{checked, solid-volume, solid-refused, work-front}
+use Rattle.mesh_laws.specs.Laws.{checked, solid-volume, solid-refused, answer-refused, work-front}
 use Rattle.mesh_check.proofs.Answers.{not-counted}
 use Rattle.mesh_check.proofs.Work.{early-number, work-early}
 use Rattle.polyhedron.specs.Polyhedron.{stationOutOfLimits, givenCause, polyhedronCause, polyhedronAt, polyhedron}
@@ -48,7 +48,7 @@ module _ (p : Vector) (v : List Float) (f w : List ℕ) where
   unfolding checkMesh
   counts-leave r e =
       let q = not-counted v f w r e in
-      sym (q .1 ∙ ap (λ (c : Cause). workAfter c f w) (solid-refused (meshCause v f (length w)) (volume v f) r (sym (q .0))))
+      sym (q .1 ∙ ap (λ (c : Cause). workAfter c f w) (answer-refused (meshCause v f (length w)) (volume v f) r (sym (q .0))))
 
   station-leaves : (b : Bool) (r : Refusal) → unless b OutOfLimits ≡ Refused r → leavesWork r ≡ true
   unfolding leavesWork

@@ -4,10 +4,11 @@ use lib.ListN.{length}
 use denote.Ref.{now}
 use borrow.Author.Needs.{needs}
 use Rattle.refusals.specs.declared.Cause.{Cause}
+use Rattle.refusals.specs.Answer.{value, orAnswer}
 use Rattle.mesh.specs.Surface.{volume}
-use Rattle.mesh.specs.Check.{surfaceCause, meshCause, solidOf, checkMesh, workAfter}
+use Rattle.mesh.specs.Check.{surfaceCause, meshCause, checkMesh, answerOf, workAfter}
 use Rattle.mesh.specs.CauseLaws.{none-count}
-use Rattle.mesh_check.proofs.Answers.{not-counted, out-of-limits, go-on}
+use Rattle.mesh_check.proofs.Answers.{solid-answer, not-counted, out-of-limits, go-on}
 use Rattle.mesh_check.proofs.check_mesh.Statement.{statement}
 use Rattle.mesh_check.proofs.check_mesh.Tie as tie
 
@@ -50,8 +51,10 @@ returns-3 c =
     let f = now (st .args .faces) in
     let w = now (st .args .work) in
     let e : meshCause v f (length w) ≡ surfaceCause v f =
-    go-on v f w (sym (d .count-cause .ensures) ∙ t .enum-told .given .1) (sym (a .out-of-limits .ensures) ∙ u .enum-told2 .given .1) in
-    (s .check-surface .ensures .0 ∙ sym (ap (λ (x : Cause). solidOf x (volume v f)) e), s .check-surface .ensures .1 ∙ sym (ap (λ (x : Cause). workAfter x f w) e))
+    go-on v f w (sym (d .count-cause .ensures) ∙ t .enum-told .given .1) (sym (a .out-of-limits .ensures) ∙ u .enum-told2 .given .1) in (
+      ap answerOf (s .check-surface .ensures .0) ∙ solid-answer (surfaceCause v f) (volume v f) ∙ sym (ap (λ (x : Cause). orAnswer x (value (volume v f))) e),
+      s .check-surface .ensures .1 ∙ sym (ap (λ (x : Cause). workAfter x f w) e),
+    )
 
 pub check-mesh-spec : {M : Type 1} → statement M
 check-mesh-spec =
