@@ -1,13 +1,13 @@
--- The stages in order are `checkerCause` (`staged`), and the verdict is that of it (`refusing`, `accepting`). Assumes nothing.
+-- The stages in order are `checkerCause` (`staged`), and the answer is that of it (`refusing`, `accepting`). Assumes nothing.
 use mathlib.Core.Path.{_≡_, refl, _∙_}
-use mathlib.Core.List.{List}
+use mathlib.Core.List.{List, [], _∷_}
 use Prim.Native.Nat.{ℕ}
 use Rattle.refusals.specs.declared.Refusal.{Refusal}
+use Rattle.refusals.specs.Answer.{value, refused}
 use Rattle.refusals.specs.Causes.{orElse}
 use Rattle.refusals.specs.declared.Cause.{Cause}
 use Rattle.refusals.specs.declared.Cause.the-variants.{None, Refused}
-use Rattle.sheet.specs.Checker.{kindIn, stationsIn, checkerCause, openingCause, verdict}
-use Rattle.sheet.specs.declared.Verdict as verdicts
+use Rattle.sheet.specs.Checker.{kindIn, stationsIn, checkerCause, openingCause, checkSheet}
 use Rattle.sheet_laws.specs.Reading.{stations-read}
 use Rattle.checker_lists.specs.Stages.{indicesCause, listsCause, volumeCause, stationsCause}
 use Rattle.checker_stations.specs.Outcome.{refusedBy, outcomeOr, stationsOutcome}
@@ -43,7 +43,7 @@ module _ (b : List ℕ) where
   unfolding laterOutcome outcomeOr
   stations-last p q = rw (p, q)
 
--- ---- the verdict
+-- ---- the answer
 
 module _ (b : List ℕ) where
   pub opening-refused : (r : Refusal) → openingCause b ≡ Refused r → checkerCause b ≡ Refused r
@@ -53,10 +53,10 @@ module _ (b : List ℕ) where
   pub found : {c : Cause} → openingCause b ≡ None → laterOutcome b .cause ≡ c → checkerCause b ≡ c
   found p q = staged b ∙ rw (p, q)
 
-  pub refusing : (r : Refusal) → checkerCause b ≡ Refused r → verdicts.the-variants.Refused r ≡ verdict b
-  unfolding verdict
+  pub refusing : (r : Refusal) → checkerCause b ≡ Refused r → refused r ≡ checkSheet b
+  unfolding checkSheet
   refusing r e = rw e
 
-  pub accepting : checkerCause b ≡ None → verdicts.the-variants.Accepted (kindIn b) (stationsIn b) ≡ verdict b
-  unfolding verdict
+  pub accepting : checkerCause b ≡ None → value (kindIn b ∷ stationsIn b ∷ []) ≡ checkSheet b
+  unfolding checkSheet
   accepting e = rw e

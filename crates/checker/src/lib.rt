@@ -5,7 +5,7 @@ mod stages;
 
 ghost use mathlib.Core.Path.{_≡_};
 ghost use Prim.Native.Nat.{ℕ};
-ghost use Rattle.sheet.specs.Checker.{verdict};
+ghost use Rattle.sheet.specs.Checker.{verdictAnswer, checkSheet};
 ghost use Rattle.sheet.specs.Promises.{Right};
 use refusals::Cause;
 use sheet::Verdict;
@@ -13,7 +13,7 @@ use sheet::Verdict;
 // Checks a sheet: accepted, with the kind and S that stand in its trailer, or refused by the first cause of document 01's order. An accepted sheet is closed, of a
 // volume above 0, and in every byte what the definitions give.
 pub fn check_sheet(sheet: &[u8]) -> Verdict
-    ensures { λ r. ⌜ r ≡ verdict (now (sheet .entry)) ⌝ }
+    ensures { λ r. ⌜ verdictAnswer r ≡ checkSheet (now (sheet .entry)) ⌝ }
     ensures { λ r. ⌜ ((k n : ℕ) → r ≡ Verdict.Accepted k n → Right (now (sheet .entry)) k n) ⌝ }
 {
     let opening = sheet_readers::opening_cause(sheet);

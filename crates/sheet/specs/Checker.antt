@@ -5,6 +5,7 @@ use Prim.Native.Nat.{ℕ, _+_, _*_, _-_}
 use lib.Dec.{eqb, ltb, leb}
 use lib.ListN.{length, getD, take, drop}
 use lib.Ieee.{binary64, toBits}
+use Rattle.refusals.specs.Answer.{Answer, value, refused, orAnswer}
 use Rattle.refusals.specs.Causes.{orElse, unless, firstOf}
 use Rattle.refusals.specs.declared.Refusal.the-variants.{WrongLength, WrongOrder, WrongMate, WrongVolume, WrongRow}
 use Rattle.refusals.specs.declared.Cause.{Cause}
@@ -20,6 +21,12 @@ use Rattle.sheet.specs.Bytes.{trailerLength, pointerOf, volume, numbersO
 use Rattle.sheet.specs.Writer.{malformed, tooMany, outOfLimits, noSuchVertex, tooThin, stationCause}
 use Rattle.sheet.specs.declared.Verdict.{Verdict}
 use Rattle.sheet.specs.declared.Verdict as verdicts
+
+-- ---- the answer of each case of `Verdict`: the kind and S, or the refusal
+
+abbrev pub verdictAnswer : Verdict → Answer (List ℕ)
+verdictAnswer (verdicts.the-variants.Accepted kind s) = value (kind ∷ s ∷ [])
+verdictAnswer (verdicts.the-variants.Refused r) = refused r
 
 -- ---- causes that do not read the sheet themselves: f is its face list, o its order list and m its mates
 
@@ -150,14 +157,10 @@ module _ (b : List ℕ) where
       orElse wrongLength (orElse (malformed s) (orElse (tooMany s) (orElse (outOfLimits s) (orElse (noSuchVertex s) (orElse (wrongOrder (s .faces) orderIn)
       (orElse (wrongMate (s .faces) matesIn) (orElse (solidCause s) (orElse (wrongVolume s) (firstOf (stationCount s) (checkStation s))))))))))
 
-  -- ---- the verdict
+  -- ---- the answer: the first of these causes, or the kind and S that stand in the trailer
 
-  abbrev pub verdictOf : Cause → Verdict
-  verdictOf None = verdicts.the-variants.Accepted kindIn stationsIn
-  verdictOf (Refused r) = verdicts.the-variants.Refused r
-
-  unfoldable pub verdict : Verdict
-  verdict = verdictOf checkerCause
+  unfoldable pub checkSheet : Answer (List ℕ)
+  checkSheet = orAnswer checkerCause (value (kindIn ∷ stationsIn ∷ []))
 
   -- ---- for readers
 

@@ -1,21 +1,21 @@
 -- Demand 3, as sheet/specs/Demand3 states it: `demand-3`, at the end, with each of its sentences by name above it. Assumes nothing.
 use mathlib.Core.Path.{_≡_, refl, sym, ap, _∙_}
-use mathlib.Core.List.{List}
+use mathlib.Core.List.{List, [], _∷_}
 use mathlib.Core.Logic.{_↔_}
 use Prim.Native.Nat.{ℕ, _+_, _*_, _≤_}
 use native.Mathlib.Omega.{arith}
 use lib.ListN.{length, take, drop}
+use Rattle.refusals.specs.Answer.{value, orAnswer}
 use Rattle.refusals.specs.declared.Cause.{Cause}
 use Rattle.refusals.specs.declared.Cause.the-variants.{None, Refused}
 use Rattle.mesh.specs.Surface.{vertex}
 use Rattle.sheet_layout.specs.LittleEndian.{number, unpack, doubles, IsBytes}
 use Rattle.sheet_layout.proofs.Numbers.{number-part}
 use Rattle.sheet_layout.proofs.Lists.{unpack-part}
-use Rattle.sheet.specs.declared.Verdict.the-variants.{Accepted}
 use Rattle.sheet.specs.Input.{SheetInput}
 use Rattle.sheet.specs.Bytes.{sheetLength, sheetBytes}
 use Rattle.sheet.specs.Writer.{writerCause}
-use Rattle.sheet.specs.Checker.{trailer, kindIn, verticesIn, facesIn, stationsIn, facesStart, stationsStart, vectorIn, parse, checkerCause, verdictOf, verdict}
+use Rattle.sheet.specs.Checker.{trailer, kindIn, verticesIn, facesIn, stationsIn, facesStart, stationsStart, vectorIn, parse, checkerCause, checkSheet}
 use Rattle.sheet.specs.Demand3 as sheet
 use Rattle.sheet.specs.Promises.{NoCause, Right, SameGiven, Typed, Kept}
 use Rattle.sheet_laws.specs.WriterLaws.{no-cause, cause-none}
@@ -33,14 +33,14 @@ writes-exactly s w o = (no-cause s w o, cause-none s w o)
 pub right : (b : List ℕ) → IsBytes b → checkerCause b ≡ None → Right b (kindIn b) (stationsIn b)
 right b B ok = accepted.right b B (accepted.passed b ok)
 
-verdict-none : (b : List ℕ) (c : Cause) {k n : ℕ} → verdictOf b c ≡ Accepted k n → (c ≡ None) × ((kindIn b ≡ k) × (stationsIn b ≡ n))
-verdict-none b None e = (refl, (cc, cc))
-verdict-none b (Refused r) e = absurd (let z : _≡_ {A = ℕ} 0 1 = cc in omega arith)
+answer-none : (c : Cause) {i j k n : ℕ} → orAnswer c (value (i ∷ j ∷ [])) ≡ value (k ∷ n ∷ []) → (c ≡ None) × ((i ≡ k) × (j ≡ n))
+answer-none None e = (refl, (cc, cc))
+answer-none (Refused r) e = absurd (let z : _≡_ {A = ℕ} 0 1 = cc in omega arith)
 
--- a verdict that accepts gives the trailer's kind and S
-pub accepted-right : (b : List ℕ) → IsBytes b → (k n : ℕ) → verdict b ≡ Accepted k n → Right b k n
-unfolding verdict
-accepted-right b B k n e = let h = verdict-none b (checkerCause b) e in rw (sym (h .1 .0), sym (h .1 .1)) (right b B (h .0))
+-- an answer that accepts gives the trailer's kind and S
+pub accepted-right : (b : List ℕ) → IsBytes b → (k n : ℕ) → checkSheet b ≡ value (k ∷ n ∷ []) → Right b k n
+unfolding checkSheet
+accepted-right b B k n e = let h = answer-none (checkerCause b) e in rw (sym (h .1 .0), sym (h .1 .1)) (right b B (h .0))
 
 -- ---- what agrees in the given bytes was made from the same
 

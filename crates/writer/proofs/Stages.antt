@@ -8,6 +8,7 @@ use lib.Dec.{leb}
 use lib.Ieee.{Float}
 use lib.ListN.{length, take, drop, replicate}
 use lib.Seq.{take-at}
+use Rattle.refusals.specs.Answer.{value, orAnswer}
 use Rattle.refusals.specs.Causes.{orElse, unless, firstOf}
 use Rattle.refusals.specs.declared.Refusal.{Refusal}
 use Rattle.refusals.specs.declared.Refusal.the-variants.{Malformed, TooMany, TooShort, OutOfLimits, TooThin}
@@ -38,7 +39,7 @@ use Rattle.writer_put_sheet.specs.Put.{sheetOrZeros, SheetPut, Prepared}
 use Rattle.writer.specs.declared.Written.{Written}
 use Rattle.writer.specs.declared.Written.the-variants.{Bytes}
 use Rattle.writer.specs.declared.Written as written
-use Rattle.writer.specs.Written.{writtenOf, Writes}
+use Rattle.writer.specs.Written.{writtenAnswer, writeSheet, Writes}
 use Rattle.writer.specs.Steps.{lateCause, Leaves}
 use Rattle.writer.proofs.Refusals.{Of, Early, LeavesOut, Late, of-refused, of-else, of-unless, of-limits, of-vertex, of-order, of-stations}
 
@@ -79,7 +80,7 @@ module _ (s : SheetInput) where
   pub untouched : (c : Cause) (r : Refusal) (w o : List ℕ) → c ≡ Refused r → Early r → Leaves s c w o (written.the-variants.Refused r) w o
   unfolding workAfter
   untouched c r w o e h = record {
-    answer = sym (ap (λ (d : Cause). writtenOf d (sheetLength s)) e);
+    answer = sym (ap (λ (d : Cause). orAnswer d (value (sheetLength s))) e);
     work = sym (ap (λ (d : Cause). workAfter d (s .faces) w) e ∙ ap (λ (b : Bool). cond b w (orderList (s .faces) ++ drop (length (s .faces)) w)) (h .0));
     out = sym (ap (λ (d : Cause). outAfter s d o) e ∙ out-left r o (h .1));
   }
@@ -127,7 +128,7 @@ module _ (s : SheetInput) (w o : List ℕ) (ok : lengthsCause s (length w) (leng
         let f = solid-refused (checkBodyCause s) (volume s) q (sym (h .answer) ∙ e) in
         let g = ap (λ (d : Cause). orElse d (firstOf (stationCount s) (stationCause s))) f in
         record {
-          answer = sym (ap (λ (d : Cause). writtenOf d (sheetLength s)) g);
+          answer = sym (ap (λ (d : Cause). orAnswer d (value (sheetLength s))) g);
           work = h .work ∙ ap (λ (d : Cause). workAfter d (s .faces) w) (f ∙ sym g);
           out = sym (ap (λ (d : Cause). outAfter s d o) g ∙ out-left s q o (of-refused LeavesOut (checkBodyCause s) q (solid-out s) f));
         }
@@ -163,12 +164,12 @@ module _ (s : SheetInput) (w o : List ℕ) (ok : lengthsCause s (length w) (leng
             room = z;
           }
 
-      pub put : (c : Cause) (n : ℕ) {a : Written} {q : List ℕ} → n ≡ sheetLength s → SheetPut s c q → a ≡ writtenOf c n → Leaves s (lateCause s) w o a p (q ++ drop n o)
+      pub put : (c : Cause) (n : ℕ) {a : Written} {q : List ℕ} → n ≡ sheetLength s → SheetPut s c q → writtenAnswer a ≡ orAnswer c (value n) → Leaves s (lateCause s) w o a p (q ++ drop n o)
       put c n z g a =
           let stations = firstOf (stationCount s) (stationCause s) in
           let f : lateCause s ≡ stations = ap (λ (d : Cause). orElse d stations) (solid .0) in
           record {
-            answer = a ∙ ap₂ writtenOf (g .cause ∙ sym f) z;
+            answer = a ∙ ap₂ (λ (d : Cause) (k : ℕ). orAnswer d (value k)) (g .cause ∙ sym f) z;
             work = held ∙ late-work s stations (of-stations s) w ∙ ap (λ (d : Cause). workAfter d (s .faces) w) (sym f);
             out = ap₂ (λ (y : List ℕ) (k : ℕ). y ++ drop k o) (g .bytes ∙ ap (sheetOrZeros s) (g .cause)) z ∙ late-out s stations (of-stations s) o ∙ ap (λ (d : Cause). outAfter s d o) (sym f);
           }
@@ -195,13 +196,17 @@ module _ (s : SheetInput) (w o : ℕ) where
 
 -- ---- demand 3
 
-no-refusal : (c : Cause) (m n : ℕ) → writtenOf c m ≡ Bytes n → c ≡ None
+no-refusal : (c : Cause) (m n : ℕ) → orAnswer c (value m) ≡ value n → c ≡ None
 no-refusal None m n e = refl
 no-refusal (Refused r) m n e = absurd (let z : _≡_ {A = ℕ} 0 1 = cc in omega arith)
 
+is-bytes : (r : Written) (n : ℕ) → writtenAnswer r ≡ value n → r ≡ Bytes n
+is-bytes (Bytes m) n e = ap Bytes (cc)
+is-bytes (written.the-variants.Refused q) n e = absurd (let z : _≡_ {A = ℕ} 0 1 = cc in omega arith)
+
 module _ (s : SheetInput) (ty : Typed s) (w o : List ℕ) {r : Written} {p q : List ℕ} (h : Leaves s (writerCause s (length w) (length o)) w o r p q) where
   none : (n : ℕ) → r ≡ Bytes n → writerCause s (length w) (length o) ≡ None
-  none n e = no-refusal (writerCause s (length w) (length o)) (sheetLength s) n (sym (h .answer) ∙ e)
+  none n e = no-refusal (writerCause s (length w) (length o)) (sheetLength s) n (sym (h .answer) ∙ ap writtenAnswer e)
 
   is-kept : (n : ℕ) → r ≡ Bytes n → Kept s (take (sheetLength s) q)
   unfolding outAfter
@@ -213,13 +218,14 @@ module _ (s : SheetInput) (ty : Typed s) (w o : List ℕ) {r : Written} {p q : L
 
   -- what the equations promise of a written sheet
   writes : Writes s w o r p q
+  unfolding writeSheet
   writes = record {
     answer = h .answer;
     work = h .work;
     out = h .out;
     kept = is-kept;
     only = λ n e. no-cause s (length w) (length o) (none n e);
-    always = λ k. h .answer ∙ ap (λ (c : Cause). writtenOf c (sheetLength s)) (cause-none s (length w) (length o) k);
+    always = λ k. is-bytes r (sheetLength s) (h .answer ∙ ap (λ (c : Cause). orAnswer c (value (sheetLength s))) (cause-none s (length w) (length o) k));
   }
 
 -- ---- the returns of `write_sheet`

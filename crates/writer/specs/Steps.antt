@@ -2,6 +2,7 @@
 use mathlib.Core.Path.{_≡_}
 use mathlib.Core.List.{List}
 use Prim.Native.Nat.{ℕ}
+use Rattle.refusals.specs.Answer.{value, orAnswer}
 use Rattle.refusals.specs.Causes.{orElse, firstOf}
 use Rattle.refusals.specs.declared.Cause.{Cause}
 use Rattle.mesh.specs.Check.{workAfter}
@@ -10,7 +11,7 @@ use Rattle.sheet.specs.Bytes.{sheetLength}
 use Rattle.sheet.specs.Writer.{stationCause, outAfter}
 use Rattle.sheet_body.specs.BodyChecked.{checkBodyCause}
 use Rattle.writer.specs.declared.Written.{Written}
-use Rattle.writer.specs.Written.{writtenOf}
+use Rattle.writer.specs.Written.{writtenAnswer}
 
 -- the body's causes, and by station 10 or 11, 13
 abbrev pub lateCause : SheetInput → Cause
@@ -18,7 +19,7 @@ lateCause s = orElse (checkBodyCause s) (firstOf (stationCount s) (stationCause 
 
 -- the equations of `Writes`, for the first cause c that was found: the answer is r, work w has become p, out o has become q
 pub record Leaves (s : SheetInput) (c : Cause) (w o : List ℕ) (r : Written) (p q : List ℕ) : Type 0 where
-  pub answer : r ≡ writtenOf c (sheetLength s)
+  pub answer : writtenAnswer r ≡ orAnswer c (value (sheetLength s))
   pub work : p ≡ workAfter c (s .faces) w
   pub out : q ≡ outAfter s c o
 

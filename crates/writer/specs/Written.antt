@@ -3,8 +3,7 @@ use mathlib.Core.Path.{_≡_}
 use mathlib.Core.List.{List}
 use Prim.Native.Nat.{ℕ}
 use lib.ListN.{length, take}
-use Rattle.refusals.specs.declared.Cause.{Cause}
-use Rattle.refusals.specs.declared.Cause as causes
+use Rattle.refusals.specs.Answer.{Answer, value, refused, orAnswer}
 use Rattle.mesh.specs.Check.{workAfter}
 use Rattle.sheet.specs.Input.{SheetInput}
 use Rattle.sheet.specs.Bytes.{sheetLength}
@@ -13,15 +12,19 @@ use Rattle.sheet.specs.Promises.{NoCause, Kept}
 use Rattle.writer.specs.declared.Written.{Written}
 use Rattle.writer.specs.declared.Written.the-variants.{Bytes, Refused}
 
--- the refusal, or else the sheet's length n
-abbrev pub writtenOf : Cause → ℕ → Written
-writtenOf causes.the-variants.None n = Bytes n
-writtenOf (causes.the-variants.Refused r) n = Refused r
+-- the answer of each case of `Written`: the sheet's length, or the refusal
+abbrev pub writtenAnswer : Written → Answer ℕ
+writtenAnswer (Bytes n) = value n
+writtenAnswer (Refused r) = refused r
+
+-- the first cause of refusal, for the lengths w of work and o of out, or the sheet's length
+unfoldable pub writeSheet : SheetInput → ℕ → ℕ → Answer ℕ
+writeSheet s w o = orAnswer (writerCause s w o) (value (sheetLength s))
 
 -- The sheet of s was asked for. The answer is r; work, which was w, has become p, and out, which was o, has become q.
 pub record Writes (s : SheetInput) (w o : List ℕ) (r : Written) (p q : List ℕ) : Type 0 where
   -- in all cases
-  pub answer : r ≡ writtenOf (writerCause s (length w) (length o)) (sheetLength s)
+  pub answer : writtenAnswer r ≡ writeSheet s (length w) (length o)
   pub work : p ≡ workAfter (writerCause s (length w) (length o)) (s .faces) w
   pub out : q ≡ outAfter s (writerCause s (length w) (length o)) o
   -- it is written exactly where no cause of refusal holds

@@ -1,10 +1,11 @@
 // The sheet writer.
 ghost use mathlib.Core.Path.{_≡_};
 ghost use lib.ListN.{length};
+ghost use Rattle.refusals.specs.Answer.{value, orAnswer};
 ghost use Rattle.refusals.specs.declared.Cause.the-variants.{None};
 ghost use Rattle.sheet.specs.Input.{inputOf};
 ghost use Rattle.writer_causes.specs.LengthsCause.{lengthsCause};
-ghost use Rattle.writer.specs.Written.{writtenOf, Writes};
+ghost use Rattle.writer.specs.Written.{writtenAnswer, Writes};
 ghost use Rattle.writer.specs.Steps.{LeavesLate};
 use mesh::Solid;
 use newtonian::Vector;
@@ -22,7 +23,7 @@ pub enum Written {
 }
 
 fn answer(cause: Cause, size: usize) -> Written
-    ensures { λ r. ⌜ r ≡ writtenOf cause size ⌝ }
+    ensures { λ r. ⌜ writtenAnswer r ≡ orAnswer cause (value size) ⌝ }
 {
     match cause {
         Cause::None => Written::Bytes(size),

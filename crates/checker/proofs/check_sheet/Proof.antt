@@ -1,10 +1,10 @@
--- `checker::check_sheet` meets its contract: the verdict is that of the first cause, and what is accepted is right. Assumes nothing.
+-- `checker::check_sheet` meets its contract: the answer is that of the first cause, and what is accepted is right. Assumes nothing.
 use mathlib.Core.Path.{_≡_, sym, ap, _∙_}
 use denote.Ref.{now}
 use borrow.Author.Needs.{needs}
 use Rattle.refusals.specs.declared.Cause.the-variants.{None}
 use Rattle.sheet.specs.declared.Verdict.the-variants.{Accepted}
-use Rattle.sheet.specs.Checker.{openingCause, verdict}
+use Rattle.sheet.specs.Checker.{openingCause, verdictAnswer, checkSheet}
 use Rattle.sheet_laws.specs.Demand3.{accepted-right}
 use Rattle.sheet_readers.specs.Opened.{Opened}
 use Rattle.sheet_readers.proofs.Opening.{opened}
@@ -29,7 +29,7 @@ returns c =
     let o = c .before .before .before in
     let b = now (o .before .before .args .sheet) in
     let e = refusing b _ (opening-refused b _ (sym (o .opening-cause .ensures) ∙ c .before .opening .given .1)) in
-    (e, λ k n q. accepted-right b (λ i. o .before .shared-slice-known .given i .fits) k n (sym e ∙ q))
+    (e, λ k n q. accepted-right b (λ i. o .before .shared-slice-known .given i .fits) k n (sym e ∙ ap verdictAnswer q))
 
 -- the outcome's cause
 abbrev in-room : tie.After-enum-told2 → tie.After-in-smallest-room
@@ -41,7 +41,7 @@ returns-2 c =
     let told = r .before in
     let b = now (start told .args .sheet) in
     let e = refusing b _ (found b (none told) (sym (ap (λ (o : Outcome). o .cause) (r .in-smallest-room .ensures)) ∙ c .before .cause .given .1)) in
-    (e, λ k n q. accepted-right b (λ i. told .before .before .before .shared-slice-known .given i .fits) k n (sym e ∙ q))
+    (e, λ k n q. accepted-right b (λ i. told .before .before .before .shared-slice-known .given i .fits) k n (sym e ∙ ap verdictAnswer q))
 
 returns-3 : tie.Need-returns-3
 returns-3 c =
@@ -50,8 +50,8 @@ returns-3 c =
     let told = r .before in
     let b = now (start told .args .sheet) in
     let none-found = found b (none told) (sym (ap (λ (o : Outcome). o .cause) (r .in-smallest-room .ensures)) ∙ free .enum-told2 .given .1) in
-    let e : Accepted (c .before .kind .result) (c .stations .result) ≡ verdict b = rw (c .before .kind .ensures, c .stations .ensures) (accepting b none-found) in
-    (e, λ k n q. accepted-right b (λ i. told .before .before .before .shared-slice-known .given i .fits) k n (sym e ∙ q))
+    let e : verdictAnswer (Accepted (c .before .kind .result) (c .stations .result)) ≡ checkSheet b = rw (c .before .kind .ensures, c .stations .ensures) (accepting b none-found) in
+    (e, λ k n q. accepted-right b (λ i. told .before .before .before .shared-slice-known .given i .fits) k n (sym e ∙ ap verdictAnswer q))
 
 pub check-sheet-spec : {M : Type 1} → statement M
 check-sheet-spec =
