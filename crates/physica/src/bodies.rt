@@ -2,7 +2,7 @@
 ghost use mathlib.Core.Path.{_≡_};
 ghost use lib.ListN.{length};
 ghost use Rattle.prism.specs.Prism.{prism};
-ghost use Rattle.mesh.specs.Check.{checkMesh, meshCause, workAfter, answerOf};
+ghost use Rattle.mesh.specs.Check.{checkMesh, meshCause, workAfter};
 ghost use Rattle.polyhedron.specs.Polyhedron.{polyhedron, polyhedronCause};
 ghost use Rattle.newtonian.specs.Vectors.{fieldNumbers};
 ghost use Rattle.physica_lent.specs.Exported.{vectorOf, itself, GivesValues};
@@ -37,7 +37,7 @@ pub extern "C" fn physica_check_mesh(
     out: &mut f64,
     values: &mut [u32; 2],
 ) -> u32
-    ensures { λ r. ⌜ GivesValues itself (answerOf (checkMesh (now (verts .entry)) (now (faces .entry)) (length (now (work .entry))))) r (now (out .entry)) (now (out .exit)) (now (values .exit)) ⌝ }
+    ensures { λ r. ⌜ GivesValues itself (checkMesh (now (verts .entry)) (now (faces .entry)) (length (now (work .entry)))) r (now (out .entry)) (now (out .exit)) (now (values .exit)) ⌝ }
     ensures work { λ _. ⌜ now (work .exit) ≡ workAfter (meshCause (now (verts .entry)) (now (faces .entry)) (length (now (work .entry)))) (now (faces .entry)) (now (work .entry)) ⌝ }
 {
     give_volume(mesh_check::check_mesh(verts, faces, work), out, values)

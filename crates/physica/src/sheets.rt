@@ -1,13 +1,10 @@
 // Sheets: writing, checking, and reading their rows.
 ghost use mathlib.Core.Path.{_≡_};
-ghost use Prim.Native.Nat.{ℕ, _+_, _-_};
+ghost use Prim.Native.Nat.{_+_, _-_};
 ghost use lib.ListN.{length, take, drop};
 ghost use Rattle.sheet.specs.Bytes.{trailerLength};
-ghost use Rattle.sheet.specs.Checker.{verdict, rowsPart, rowPart};
-ghost use Rattle.sheet.specs.Promises.{Right};
-ghost use Rattle.sheet.specs.declared.Verdict.the-variants.{Accepted};
-ghost use Rattle.physica_lent.specs.Exported.{itself, GivesValues};
-ghost use Rattle.physica_lent.specs.Sheets.{verdictAnswer, sheetInput, WritesLent, numbersGiven, rowAfter};
+ghost use Rattle.sheet.specs.Checker.{rowsPart, rowPart};
+ghost use Rattle.physica_lent.specs.Sheets.{sheetInput, WritesLent, ChecksLent, numbersGiven, rowAfter};
 use physica_lent::give::give_verdict;
 use physica_lent::give::give_written;
 use physica_lent::take::row_numbers;
@@ -50,8 +47,7 @@ pub extern "C" fn physica_check_sheet(
     found: &mut [u32; 2],
     values: &mut [u32; 2],
 ) -> u32
-    ensures { λ r. ⌜ GivesValues itself (verdictAnswer (verdict (now (sheet .entry)))) r (now (found .entry)) (now (found .exit)) (now (values .exit)) ⌝ }
-    ensures right { λ _. ⌜ ((k n : ℕ) → verdict (now (sheet .entry)) ≡ Accepted k n → Right (now (sheet .entry)) k n) ⌝ }
+    ensures { λ r. ⌜ ChecksLent (now (sheet .entry)) r (now (found .entry)) (now (found .exit)) (now (values .exit)) ⌝ }
 {
     give_verdict(checker::check_sheet(sheet), found, values)
 }

@@ -1,34 +1,20 @@
 -- What the exported calls on sheets take, return and write. Definitions only.
+use mathlib.Core.Path.{_≡_}
 use mathlib.Core.Bool.{cond}
-use mathlib.Core.List.{List, [], _∷_}
+use mathlib.Core.List.{List}
 use Prim.Native.Nat.{ℕ, _*_}
 use lib.Dec.{leb}
-use lib.ListN.{length}
+use lib.ListN.{length, getD, take}
 use lib.Ieee.{Float}
-use Rattle.refusals.specs.Answer.{Answer, value, refused}
+use Rattle.mesh.specs.Check.{workAfter}
 use Rattle.sheet_layout.specs.LittleEndian.{unpack, doubles}
 use Rattle.sheet_rows.specs.Kinds.{plainWidth}
 use Rattle.sheet.specs.Input.{SheetInput, inputOf}
-use Rattle.sheet.specs.Bytes.{sheetLength}
-use Rattle.sheet.specs.Writer.{writerCause}
-use Rattle.sheet.specs.declared.Verdict.{Verdict}
-use Rattle.sheet.specs.declared.Verdict as verdicts
-use Rattle.writer.specs.Written.{writtenOf, Writes}
-use Rattle.writer.specs.declared.Written.{Written}
-use Rattle.writer.specs.declared.Written as writtens
+use Rattle.sheet.specs.Writer.{writerCause, outAfter}
+use Rattle.sheet.specs.Checker.{checkSheet}
+use Rattle.sheet.specs.Promises.{NoCause, Right, Kept}
+use Rattle.writer.specs.Written.{writeSheet}
 use Rattle.physica_lent.specs.Exported.{vectorOf, itself, GivesValues}
-
--- ---- the answer of each case
-
--- the sheet's length
-abbrev pub writtenAnswer : Written → Answer ℕ
-writtenAnswer (writtens.the-variants.Bytes n) = value n
-writtenAnswer (writtens.the-variants.Refused r) = refused r
-
--- the kind and S
-abbrev pub verdictAnswer : Verdict → Answer (List ℕ)
-verdictAnswer (verdicts.the-variants.Accepted kind s) = value (kind ∷ s ∷ [])
-verdictAnswer (verdicts.the-variants.Refused r) = refused r
 
 -- ---- the writer
 
@@ -36,14 +22,26 @@ verdictAnswer (verdicts.the-variants.Refused r) = refused r
 abbrev pub sheetInput : ℕ → List Float → List ℕ → List Float → List Float → List Float → SheetInput
 sheetInput kind v f m b stations = inputOf kind v f (vectorOf m) (vectorOf b) stations
 
--- the writer's answer, for the lengths w of work and o of out
-abbrev pub writeSheet : SheetInput → ℕ → ℕ → Written
-writeSheet s w o = writtenOf (writerCause s w o) (sheetLength s)
-
 -- what `physica_write_sheet` leaves: work w has become p and out o has become q; it returns r, and has set size n to m and the refusal's values vs
 pub record WritesLent (s : SheetInput) (w o p q : List ℕ) (r n m : ℕ) (vs : List ℕ) : Type 0 where
-  pub answer : GivesValues itself (writtenAnswer (writeSheet s (length w) (length o))) r n m vs
-  pub lent : Writes s w o (writeSheet s (length w) (length o)) p q
+  -- in all cases
+  pub answer : GivesValues itself (writeSheet s (length w) (length o)) r n m vs
+  pub work : p ≡ workAfter (writerCause s (length w) (length o)) (s .faces) w
+  pub out : q ≡ outAfter s (writerCause s (length w) (length o)) o
+  -- it returns 0 exactly where no cause of refusal holds
+  pub only : r ≡ 0 → NoCause s (length w) (length o)
+  pub always : NoCause s (length w) (length o) → r ≡ 0
+  -- and then the first bytes of out, as many as size says, are a sheet that holds, bit for bit, what was given, and that the checker accepts
+  pub kept : r ≡ 0 → Kept s (take m q)
+
+-- ---- the checker
+
+-- what `physica_check_sheet` says of the sheet b: it returns r, and has set found, which was n, to m and the refusal's values to vs
+pub record ChecksLent (b : List ℕ) (r : ℕ) (n m vs : List ℕ) : Type 0 where
+  -- in all cases
+  pub answer : GivesValues itself (checkSheet b) r n m vs
+  -- where it returns 0 the sheet is right, with the kind and S that it found
+  pub right : r ≡ 0 → Right b (getD m 0 0) (getD m 1 0)
 
 -- ---- a row, from the part of the sheet that it is, which is empty where there is none
 
