@@ -1,3 +1,2 @@
--- For the crates above: what a caller of `gauss_legendre` reads (Answer). For the proofs here: the table's entries (Entries).
-pub mod Answer
+-- For the proofs here: the table's entries (Entries).
 pub mod Entries

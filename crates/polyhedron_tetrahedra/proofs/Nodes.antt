@@ -9,7 +9,7 @@ use lib.Ieee.{Float, nan}
 use Rattle.doubles.specs.Rounded.{_⊕_, _⊗_}
 use Rattle.doubles.specs.Constants.{0·5, 1·0}
 use Rattle.legendre.specs.GaussLegendre.{gaussLegendre}
-use Rattle.legendre.proofs.Answer.{node-at, weight-at}
+use Rattle.legendre.specs.RuleEntries.{node-at, weight-at}
 use Rattle.polyhedron_tetrahedra.specs.Tetrahedra.{points, mappedNode, mappedWeight, mappedRule}
 
 pub map-node : (i : ℕ) → i < points → 0·5 ⊗ (getD (gaussLegendre points .nodes) i nan ⊕ 1·0) ≡ mappedNode i

@@ -8,7 +8,7 @@ use Rattle.legendre.specs.Table.{table}
 use Rattle.legendre.specs.Answers.{ruleAnswer}
 use Rattle.legendre.specs.declared.Rule.{Rule}
 use Rattle.legendre.specs.GaussLegendre.{node, weight, gaussLegendre, ruleOf}
-use Rattle.legendre.proofs.Answer.{accepted, refused, rule-answer}
+use Rattle.legendre.specs.RuleEntries.{order-accepted, order-refused, rule-answer}
 use Rattle.legendre.proofs.Entries.{entries, square}
 use Rattle.legendre.proofs.gauss_legendre.Statement.{statement}
 use Rattle.legendre.proofs.gauss_legendre.Tie as tie
@@ -22,10 +22,10 @@ both : {r : Rule} (n : ℕ) → r ≡ gaussLegendre n → (r ≡ gaussLegendre n
 both n e = (e, ap ruleAnswer e ∙ rule-answer n)
 
 returns : tie.Need-returns
-returns c = both _ (c .refused .ensures ∙ sym (refused _ (inl (omega arith))))
+returns c = both _ (c .refused .ensures ∙ sym (order-refused _ (inl (omega arith))))
 
 returns-2 : tie.Need-returns-2
-returns-2 c = both _ (c .refused2 .ensures ∙ sym (refused _ (inr (omega arith))))
+returns-2 c = both _ (c .refused2 .ensures ∙ sym (order-refused _ (inr (omega arith))))
 
 mul-padded : tie.Need-mul-padded
 mul-padded c = let s = square (c .before .before .before .args .order) (omega arith) (omega arith) in omega (arith, entries)
@@ -48,7 +48,7 @@ returns-3 : tie.Need-returns-3
 unfolding node weight
 returns-3 c =
     let n = start (c .before) .args .order in
-    both n (simp (c .before .before .padded .ensures, c .padded2 .ensures) (sym (accepted n (omega arith) (omega arith))))
+    both n (simp (c .before .before .padded .ensures, c .padded2 .ensures) (sym (order-accepted n (omega arith) (omega arith))))
 
 pub gauss-legendre-spec : {M : Type 1} → statement M
 gauss-legendre-spec =

@@ -7,7 +7,7 @@ use lib.ListN.{getD}
 use lib.Ieee.{nan}
 use Rattle.newtonian.specs.Fold.{Fold, fold-none, fold-more}
 use Rattle.legendre.specs.GaussLegendre.{node, weight}
-use Rattle.legendre.proofs.Answer.{node-at, weight-at}
+use Rattle.legendre.specs.RuleEntries.{node-at, weight-at}
 use Rattle.prism_cubature.specs.Cubature.{point}
 use Rattle.prism_cubature.proofs.add_line.Statement.{statement}
 use Rattle.prism_cubature.proofs.add_line.Tie as tie

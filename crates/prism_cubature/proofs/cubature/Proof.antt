@@ -8,7 +8,7 @@ use lib.Ieee.{nan}
 use Rattle.newtonian.specs.Vectors.{zeroField}
 use Rattle.newtonian.specs.Fold.{Fold, fold-none, fold-more}
 use Rattle.legendre.specs.GaussLegendre.{node, weight}
-use Rattle.legendre.proofs.Answer.{node-at, weight-at}
+use Rattle.legendre.specs.RuleEntries.{node-at, weight-at}
 use Rattle.prism_cubature.specs.Cubature.{layer, cubature}
 use Rattle.prism_cubature.proofs.cubature.Statement.{statement}
 use Rattle.prism_cubature.proofs.cubature.Tie as tie

@@ -1,5 +1,7 @@
--- What a caller of `gauss_legendre` reads: whether the order is accepted, the count, the lengths of the arrays, and the node and the weight at an index below the count.
--- Assumes nothing.
+-- What a caller reads of the rule that `gauss_legendre` gives. Assumes nothing. States:
+-- `order-accepted`, `order-refused`: the orders 1 to 16 are accepted, the others refused; `rule-answer`: the call's answer is `ruleOf`;
+-- `count-is`: the count is the order; `length-nodes`, `length-weights`: each array has 16 numbers;
+-- `node-at`, `weight-at`: below the count they are `node n i` and `weight n i`, of which `table-is-gauss-legendre` speaks.
 use mathlib.Core.Path.{_≡_, refl, _∙_}
 use mathlib.Core.Logic.{_⊎_, inl, inr, ⊎-elim}
 use Prim.Native.Nat.{ℕ, zero, suc, _<_, _≤_}
@@ -18,26 +20,25 @@ use Rattle.legendre.specs.GaussLegendre.{maxOrder, node, weight, zeros, 
 
 -- ---- accepted or refused
 
-pub accepted : (n : ℕ) → 1 ≤ n → n ≤ maxOrder → gaussLegendre n ≡ ruleOr None n
+pub order-accepted : (n : ℕ) → 1 ≤ n → n ≤ maxOrder → gaussLegendre n ≡ ruleOr None n
 unfolding gaussLegendre
-accepted n p h = simp (le-leb 1 n p, le-leb n maxOrder h)
+order-accepted n p h = simp (le-leb 1 n p, le-leb n maxOrder h)
 
-pub refused : (n : ℕ) → (n < 1) ⊎ (maxOrder < n) → gaussLegendre n ≡ ruleOr (Refused OutsideDomain) n
+pub order-refused : (n : ℕ) → (n < 1) ⊎ (maxOrder < n) → gaussLegendre n ≡ ruleOr (Refused OutsideDomain) n
 unfolding gaussLegendre
-refused n (inl h) = simp (lt-leb 1 n h)
-refused n (inr h) = let p : 1 ≤ n = omega arith in simp (le-leb 1 n p, lt-leb n maxOrder h)
+order-refused n (inl h) = simp (lt-leb 1 n h)
+order-refused n (inr h) = let p : 1 ≤ n = omega arith in simp (le-leb 1 n p, lt-leb n maxOrder h)
 
 rule-answer-or : (c : Cause) (n : ℕ) → ruleAnswer (ruleOr c n) ≡ orAnswer c (value (ruleOr None n))
 rule-answer-or None n = refl
 rule-answer-or (Refused r) n = refl
 
--- the answer of the call's rule
 pub rule-answer : (n : ℕ) → ruleAnswer (gaussLegendre n) ≡ ruleOf n
 unfolding gaussLegendre ruleOf
 rule-answer n = rule-answer-or (ruleCause n) n
 
 pub count-is : (n : ℕ) → 1 ≤ n → n ≤ maxOrder → gaussLegendre n .count ≡ n
-count-is n p h = rw (accepted n p h)
+count-is n p h = rw (order-accepted n p h)
 
 -- ---- the lengths, whatever the order
 
@@ -71,7 +72,7 @@ padded-at (suc n) f d b i h =
 
 module _ (n i : ℕ) (d : Float) (h : n ≤ maxOrder) (l : i < n) where
   pub node-at : getD (gaussLegendre n .nodes) i d ≡ node n i
-  node-at = rw (accepted n (omega arith) h) (padded-at n (node n) d h i l)
+  node-at = rw (order-accepted n (omega arith) h) (padded-at n (node n) d h i l)
 
   pub weight-at : getD (gaussLegendre n .weights) i d ≡ weight n i
-  weight-at = rw (accepted n (omega arith) h) (padded-at n (weight n) d h i l)
+  weight-at = rw (order-accepted n (omega arith) h) (padded-at n (weight n) d h i l)
