@@ -5,6 +5,8 @@ pub mod ArgumentsOfRc
 pub mod AtMostSix
 pub mod PrincipalValue
 pub mod AbovePole
+pub mod NotBelowZero
+pub mod ThreeInOrder
 pub mod InnerRj
 pub mod CelAsWritten
 pub mod ConstantsAreNearest
