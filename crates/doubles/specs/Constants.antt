@@ -77,7 +77,7 @@ abbrev pub ε : Float
 abbrev pub +∞ : Float
 +∞ = ofBits binary64 0x7ff0_0000_0000_0000
 
--- the doubles nearest π, π/2 and ln 2, as the Rust's library has them
+-- π, π/2 and ln 2: the bits that the reference build prints of the Rust's constants. That they are the doubles nearest these numbers is assumed and not shown.
 abbrev pub π : Float
 π = ofBits binary64 0x4009_21fb_5444_2d18
 
