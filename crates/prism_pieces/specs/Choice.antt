@@ -41,8 +41,8 @@ distance p lo hi =
 
 -- ---- the orders of the cubature
 
--- ⌈x⌉, but at least 1, and `maxOrder` + 1 for all that is above `maxOrder`: one more than how many of 1, 2, .., `maxOrder` lie below x. A NaN gives 1, as the
--- Rust's `max(1.0)` passes over it.
+-- ⌈x⌉, but at least 1, and `maxOrder` + 1 for all that is above `maxOrder`: one more than how many of 1, 2, .., `maxOrder` lie below x (`ceiling-kept` in ChoiceLaws). A NaN gives
+-- 1, as the Rust's `max(1.0)` passes over it.
 abbrev pub countBelow : Float → ℕ → ℕ → ℕ
 countBelow x i n = cond (lt (ofInt binary64 (pos (i + 1))) x) (n + 1) n
 
@@ -70,7 +70,7 @@ affordable l m n = leb l maxOrder && (leb m maxOrder && (leb n maxOrder && leb (
 unfoldable pub lastLongest : Vector → Axis
 lastLongest h = cond (le (h .x) (h .y)) (cond (le (h .y) (h .z)) Z Y) (cond (le (h .x) (h .z)) Z X)
 
--- the axis of the largest half-width, by a rule for equal ones
+-- the axis of the largest half-width, by a rule for equal ones (`longest-chosen` in ChoiceLaws)
 unfoldable pub longest : AxisRule → Vector → Axis
 longest LastOfEquals h = lastLongest h
 
