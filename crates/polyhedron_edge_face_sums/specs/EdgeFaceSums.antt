@@ -74,6 +74,7 @@ fieldOf s = record {
 }
 
 -- the field at p, which has the number i among the stations; refused by 11 where more different edges than the limit give a logarithm that is not finite
+-- (`edges-different` in SumsLaws)
 unfoldable pub edgeFaceSums : ℕ → Vector → List Float → List ℕ → Answer Newtonian
 edgeFaceSums i p v f =
     let s = sumsOf p v f in
