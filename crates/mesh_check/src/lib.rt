@@ -1,5 +1,5 @@
 // `check_mesh`: is a list of triangles a closed, consistently wound, outward-facing surface? Its definition, `checkMesh`, with the causes of refusal is in mesh/specs/Check; that
-// they say what document 01 says, in mesh_laws/specs/Laws; the parts that try a cause each, in mesh/src and mesh_orders/src.
+// they say what document 01 says, in mesh_laws/specs/Laws and EarlyLaws; the parts that try a cause each, in mesh/src and mesh_orders/src.
 mod room;
 
 ghost use mathlib.Core.Path.{_≡_};

@@ -11,9 +11,10 @@ ghost use Rattle.mesh_orders.specs.Order.{orderList};
 ghost use Rattle.mesh.specs.Surface.{Body, vertexCount};
 ghost use Rattle.mesh_check.specs.CheckOrder.{checkOrder, growth, smallRoom, mediumRoom, largeRoom};
 use mesh::Solid;
+use mesh_orders::edges::MAX_FACES;
 use mesh_orders::edges::MAX_VERTICES;
 
-// Each room is so many times the one before. The largest holds the edge uses of MAX_FACES, 32,768.
+// Each room is so many times the one before.
 const GROWTH: usize = 8;
 
 // The edge uses of 512 faces.
@@ -21,6 +22,9 @@ const SMALL_ROOM: usize = 3 * 512;
 
 // The edge uses of 4,096 faces.
 const MEDIUM_ROOM: usize = GROWTH * SMALL_ROOM;
+
+// The edge uses of 32,768 faces, which is every mesh.
+const LARGE_ROOM: usize = 3 * MAX_FACES;
 
 fn small_list() -> [u32; SMALL_ROOM]
     ensures { λ r. ⌜ length r ≡ smallRoom ⌝ }
@@ -32,6 +36,12 @@ fn medium_list() -> [u32; MEDIUM_ROOM]
     ensures { λ r. ⌜ length r ≡ mediumRoom ⌝ }
 {
     [0; MEDIUM_ROOM]
+}
+
+fn large_list() -> [u32; LARGE_ROOM]
+    ensures { λ r. ⌜ length r ≡ largeRoom ⌝ }
+{
+    [0; LARGE_ROOM]
 }
 
 fn counters() -> [u32; MAX_VERTICES]
@@ -75,7 +85,7 @@ fn check_large(verts: &[f64], faces: &[u32], work: &mut [u32]) -> Solid
     let v = verts.len() / 3;
     let n = faces.len();
     let mut counts = counters();
-    let mut spare = mesh_orders::order::room();
+    let mut spare = large_list();
     crate::check_edges(verts, faces, &mut counts[..v], &mut spare[..n], work)
 }
 

@@ -19,8 +19,8 @@ start c = c .before .before .before .before
 vertices : (c : tie.After-counters) → length (take (vertexCount (now (start c .args .verts))) (c .counters .result)) ≡ vertexCount (now (start c .args .verts))
 vertices c = let st = start c in length-take-le (vertexCount (now (st .args .verts))) (c .counters .result) (omega (arith, c .counters .ensures, st .pre .2))
 
-uses : (c : tie.After-room) → length (take (length (now (start (c .before) .args .faces))) (c .room .result)) ≡ length (now (start (c .before) .args .faces))
-uses c = let st = start (c .before) in length-take-le (length (now (st .args .faces))) (c .room .result) (omega (arith, c .room .ensures, st .pre .0 .faces .few))
+uses : (c : tie.After-large-list) → length (take (length (now (start (c .before) .args .faces))) (c .large-list .result)) ≡ length (now (start (c .before) .args .faces))
+uses c = let st = start (c .before) in length-take-le (length (now (st .args .faces))) (c .large-list .result) (omega (arith, c .large-list .ensures, st .pre .0 .faces .few))
 
 pub check-large-spec : {M : Type 1} → statement M
 check-large-spec =
@@ -30,7 +30,7 @@ check-large-spec =
     (λ c κs. search needs)
     (λ c. search needs)
     (λ c. sym (vertices (c .before .before)))
-    (λ c. omega (arith, c .before .room .ensures, start (c .before .before) .pre .0 .faces .few))
+    (λ c. omega (arith, c .before .large-list .ensures, start (c .before .before) .pre .0 .faces .few))
     (λ c. sym (uses (c .before .before)))
     (λ c κs. let st = start (counters c) in (st .pre .0, vertices (counters c), uses (c .before .before .before), st .pre .1))
     (λ c. search needs)
