@@ -11,13 +11,12 @@ use lib.ListN.{length, getD, set, take, length-append}
 use lib.Seq.{sets, length-sets, length-take-le, take-suc}
 use borrow.Author.Tests.{lt-ltb, le-ltb}
 use Rattle.io.specs.Digits.{digits, Fewest}
+use Rattle.refusals.specs.Answer.{Answer, value, refused}
 use Rattle.refusals.specs.declared.Refusal.the-variants.{TooMany}
 use Rattle.refusals.specs.Numbers.{numberOf, placeOf}
-use Rattle.sheet.specs.declared.Verdict.{Verdict}
-use Rattle.sheet.specs.declared.Verdict.the-variants.{Accepted, Refused}
-use Rattle.sheet.specs.Checker.{verdict}
+use Rattle.sheet.specs.Checker.{checkSheet}
 use Rattle.sheet_layout.proofs.Stores.{sets-then}
-use Rattle.recheck_line.specs.Line.{places, decimal, acceptedWord, refusedWord, lineOf, verdictLine, maxInput, recheckLine, lineRoom, LineAtStart}
+use Rattle.recheck_line.specs.Line.{places, decimal, acceptedWord, refusedWord, lineOf, answerLine, maxInput, recheckLine, lineRoom, LineAtStart}
 
 ten-pos : (k : ℕ) → 0 < 10 ^ k
 ten-pos zero = omega arith
@@ -117,14 +116,14 @@ decimal-most n = rw (length-digits (places 19 n) n) (places-most 19 n)
 line-of-most : (word : List ℕ) (x y : ℕ) → length word ≤ 9 → length (lineOf word x y) ≤ lineRoom
 line-of-most word x y h = omega (arith, line-length [] word x y (length (decimal x)) (length (decimal y)) refl refl, decimal-most x, decimal-most y)
 
-line-most : (v : Verdict) → length (verdictLine v) ≤ lineRoom
-unfolding verdictLine
-line-most (Accepted kind stations) = line-of-most acceptedWord kind stations (omega arith)
-line-most (Refused r) = line-of-most refusedWord (numberOf r) (placeOf r) (omega arith)
+line-most : (a : Answer (List ℕ)) → length (answerLine a) ≤ lineRoom
+unfolding answerLine
+line-most (value found) = line-of-most acceptedWord (getD found 0 0) (getD found 1 0) (omega arith)
+line-most (refused r) = line-of-most refusedWord (numberOf r) (placeOf r) (omega arith)
 
 -- so a line of `recheck_line` ends within the buffer
 pub line-fits : (b : List ℕ) {n : ℕ} {new old : List ℕ} → LineAtStart n new old (recheckLine b) → lineRoom ≤ length old → n ≤ length new
 unfolding recheckLine
 line-fits b {old = old} h r =
-    let m = line-most (cond (leb (length b) maxInput) (verdict b) (Refused TooMany)) in
+    let m = line-most (cond (leb (length b) maxInput) (checkSheet b) (refused TooMany)) in
     omega (arith, m, h .count, ap length (h .bytes), length-sets old 0 (recheckLine b))

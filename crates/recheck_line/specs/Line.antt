@@ -4,14 +4,13 @@ use mathlib.Core.Bool.{cond}
 use mathlib.Core.List.{List, [], _∷_, _++_}
 use Prim.Native.Nat.{ℕ, zero, suc, _/_}
 use lib.Dec.{ltb, leb}
-use lib.ListN.{length}
+use lib.ListN.{length, getD}
 use lib.Seq.{sets}
 use Rattle.io.specs.Digits.{digits}
+use Rattle.refusals.specs.Answer.{Answer, value, refused}
 use Rattle.refusals.specs.declared.Refusal.the-variants.{TooMany}
 use Rattle.refusals.specs.Numbers.{numberOf, placeOf}
-use Rattle.sheet.specs.declared.Verdict.{Verdict}
-use Rattle.sheet.specs.declared.Verdict.the-variants.{Accepted, Refused}
-use Rattle.sheet.specs.Checker.{verdict}
+use Rattle.sheet.specs.Checker.{checkSheet}
 
 -- how many decimal digits n has, but at most m more than one
 unfoldable pub places : ℕ → ℕ → ℕ
@@ -33,16 +32,17 @@ refusedWord = 114 ∷ 101 ∷ 102 ∷ 117 ∷ 115 ∷ 101 ∷ 100 ∷ 32 ∷ []
 unfoldable pub lineOf : List ℕ → ℕ → ℕ → List ℕ
 lineOf word x y = word ++ (decimal x ++ (32 ∷ (decimal y ++ (10 ∷ []))))
 
-unfoldable pub verdictLine : Verdict → List ℕ
-verdictLine (Accepted kind stations) = lineOf acceptedWord kind stations
-verdictLine (Refused r) = lineOf refusedWord (numberOf r) (placeOf r)
+-- of what the checker answers: the kind and S, or the refusal
+unfoldable pub answerLine : Answer (List ℕ) → List ℕ
+answerLine (value found) = lineOf acceptedWord (getD found 0 0) (getD found 1 0)
+answerLine (refused r) = lineOf refusedWord (numberOf r) (placeOf r)
 
 -- document 01: a sheet of up to 65,536 bytes; longer input prints `refused 2 0`
 abbrev pub maxInput : ℕ
 maxInput = 65536
 
 unfoldable pub recheckLine : List ℕ → List ℕ
-recheckLine b = verdictLine (cond (leb (length b) maxInput) (verdict b) (Refused TooMany))
+recheckLine b = answerLine (cond (leb (length b) maxInput) (checkSheet b) (refused TooMany))
 
 -- ---- a line in a lent buffer
 

@@ -3,7 +3,8 @@ ghost use mathlib.Core.Path.{_≡_};
 ghost use Prim.Native.Nat.{_+_, _≤_};
 ghost use lib.ListN.{length};
 ghost use lib.Seq.{sets};
-ghost use Rattle.recheck_line.specs.Line.{decimal, lineOf, lineRoom, verdictLine, recheckLine, LineAtStart};
+ghost use Rattle.sheet.specs.Checker.{verdictAnswer};
+ghost use Rattle.recheck_line.specs.Line.{decimal, lineOf, lineRoom, answerLine, recheckLine, LineAtStart};
 use refusals::Refusal;
 use sheet::Verdict;
 
@@ -51,7 +52,7 @@ fn put_line(out: &mut [u8], word: &[u8], x: u32, y: u32) -> usize
 // Writes the line of a verdict at the start of out, and answers how many bytes it has.
 pub fn verdict_line(v: Verdict, out: &mut [u8]) -> usize
     requires { ⌜ lineRoom ≤ length (now out) ⌝ }
-    ensures { λ r. ⌜ LineAtStart r (now (out .exit)) (now (out .entry)) (verdictLine v) ⌝ }
+    ensures { λ r. ⌜ LineAtStart r (now (out .exit)) (now (out .entry)) (answerLine (verdictAnswer v)) ⌝ }
 {
     match v {
         Verdict::Accepted(kind, stations) => put_line(out, b"accepted ", kind, stations),

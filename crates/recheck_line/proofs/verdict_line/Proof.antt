@@ -1,5 +1,5 @@
 -- `recheck_line::verdict_line` meets its contract. Assumes nothing.
-use Rattle.recheck_line.specs.Line.{verdictLine}
+use Rattle.recheck_line.specs.Line.{answerLine}
 use borrow.Author.Needs.{needs}
 use Rattle.recheck_line.proofs.verdict_line.Statement.{statement}
 use Rattle.recheck_line.proofs.verdict_line.Tie as tie
@@ -14,11 +14,11 @@ abbrev number : tie.After-slice-known3 → tie.After-number
 number c = c .before .before .before .before
 
 returns : tie.Need-returns
-unfolding verdictLine
+unfolding answerLine
 returns c = rw (after-v c .v .given .1) (c .before .before .put-line .ensures)
 
 returns-2 : tie.Need-returns-2
-unfolding verdictLine
+unfolding answerLine
 returns-2 c = rw (after-v2 (number c) .v2 .given .1, ← number c .number .ensures, ← c .before .before .before .place .ensures) (c .before .before .put-line2 .ensures)
 
 pub verdict-line-spec : {M : Type 1} → statement M
