@@ -1,3 +1,4 @@
 -- The field of a closed polyhedron of triangles.
 pub mod Polyhedron
 pub mod PolyhedronLaws
+pub mod StationNumber

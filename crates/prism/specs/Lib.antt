@@ -1,3 +1,4 @@
 -- The field of a rectangular prism, or its refusal.
 pub mod Prism
 pub mod PrismRefusals
+pub mod StationNumber

@@ -1,4 +1,4 @@
--- Demand 3, proved (`Demand3`, the last but one), document 01's reference facts, and the laws that they rest on.
+-- Demand 3, proved (`Demand3`), rows as the single-point calls answer them, document 01's reference facts, and the laws that they rest on.
 pub mod WriterLaws
 pub mod OrderAndMates
 pub mod Reading
@@ -7,4 +7,5 @@ pub mod AcceptedLaws
 pub mod FieldFits
 pub mod KeptLaws
 pub mod Demand3
+pub mod RowsAreCalls
 pub mod ReferenceFacts

@@ -59,7 +59,7 @@ in-limits v e =
     let u = both (withinLimits (v .x)) (withinLimits (v .y)) (t .0) in
     record { x = u .0; y = u .1; z = t .1 }
 
-limits-in : (v : Vector) → VectorInLimits v → vectorWithinLimits v ≡ true
+pub limits-in : (v : Vector) → VectorInLimits v → vectorWithinLimits v ≡ true
 unfolding vectorWithinLimits
 limits-in v h = rw (h .x, h .y, h .z)
 

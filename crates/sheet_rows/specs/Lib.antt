@@ -3,3 +3,4 @@ pub mod Kinds
 pub mod Row
 pub mod BodyWithCenter
 pub mod RowRefusals
+pub mod StationNumber

@@ -19,7 +19,8 @@ use Rattle.polyhedron.specs.PolyhedronLaws.{at-refused}
 use Rattle.sheet_rows.specs.Kinds.{isMesh, axisRule}
 use Rattle.sheet_rows.specs.Row.{fieldAt, inRow, rowAt}
 
-of-field : (kind : ℕ) (m b : Vector) (g : Answer Newtonian) (r : Refusal) → inRow kind m b g ≡ refused r → g ≡ refused r
+-- a row is refused as its field is
+pub of-field : (kind : ℕ) (m b : Vector) (g : Answer Newtonian) (r : Refusal) → inRow kind m b g ≡ refused r → g ≡ refused r
 of-field kind m b (value g) r e = absurd (let z : _≡_ {A = ℕ} 0 1 = cc in omega arith)
 of-field kind m b (refused q) r e = let z : q ≡ r = cc in ap {B = Answer Newtonian} refused z
 
