@@ -4,6 +4,7 @@ use native.Mathlib.Omega.{arith}
 use lib.ListN.{length}
 use denote.Ref.{now}
 use Rattle.sheet.specs.Input.{SheetInput, inputOf}
+use Rattle.writer_rows.proofs.RowLaws.{none-refused}
 use Rattle.writer_put_sheet.proofs.Pieces.{put-together}
 use Rattle.writer_put_sheet.proofs.put_sheet.Statement.{statement}
 use Rattle.writer_put_sheet.proofs.put_sheet.Tie as tie
@@ -43,7 +44,7 @@ returns c =
     let put = rows .put-rows .ensures in
     record {
       cause = put .cause;
-      bytes = put-together (input st) (now (a .order)) (a .volume) (now (a .out)) (st .pre) (same-size (slice-known3 c)) (front .put-front .ensures) (rows .put-rows .result) (put .cause) (put .rows) (c .before .before .put-end .ensures);
+      bytes = put-together (input st) (now (a .order)) (a .volume) (now (a .out)) (st .pre) (same-size (slice-known3 c)) (front .put-front .ensures) (rows .put-rows .result) (put .cause) (none-refused (input st) _ put) (c .before .before .put-end .ensures);
     }
 
 pub put-sheet-spec : {M : Type 1} → statement M

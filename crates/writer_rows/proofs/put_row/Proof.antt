@@ -1,5 +1,5 @@
 -- `writer_rows::put_row` meets its contract. Assumes nothing.
-use mathlib.Core.Path.{_≡_, sym, ap, _∙_}
+use mathlib.Core.Path.{_≡_, refl, sym, ap, _∙_}
 use mathlib.Core.Bool.{true, false}
 use mathlib.Core.List.{List}
 use Prim.{tt}
@@ -9,14 +9,13 @@ use lib.Ieee.{Float}
 use denote.Ref.{now}
 use borrow.Author.Needs.{needs}
 use Rattle.refusals.specs.Answer.{value}
-use Rattle.refusals.specs.declared.Refusal.the-variants.{NotFinite}
 use Rattle.newtonian.specs.declared.Vector.{Vector}
 use Rattle.sheet_layout.specs.LittleEndian.{pack, bits}
 use Rattle.sheet_rows.specs.Row.{answerOf}
 use Rattle.sheet_rows.specs.Row as row
 use Rattle.sheet.specs.Input.{SheetInput, rowAt, inputOf}
 use Rattle.sheet.specs.Bytes.{numbersOf}
-use Rattle.writer_rows.proofs.RowLaws.{not-none, of-row, of-refused}
+use Rattle.writer_rows.proofs.RowLaws.{of-row, of-refused}
 use Rattle.writer_rows.proofs.put_row.Statement.{statement}
 use Rattle.writer_rows.proofs.put_row.Tie as tie
 
@@ -57,7 +56,7 @@ returns c =
     let a = st .args in
     record {
       cause = of-row (input st) (a .i) (row .row .given .0 .0) true (given row) (sym (finite .is-finite-row .ensures) ∙ numbers .before .if1 .taken);
-      row = λ z. c .before .before .put-f64s .ensures ∙ ap (λ (xs : List Float). sets (now (a .out)) (a .at) (pack 8 (bits xs))) (numbers .row-numbers .ensures ∙ ap (numbersOf (input st)) (given row));
+      bytes = c .before .before .put-f64s .ensures ∙ ap (λ (xs : List Float). sets (now (a .out)) (a .at) (pack 8 (bits xs))) (numbers .row-numbers .ensures ∙ ap (numbersOf (input st)) (given row));
     }
 
 returns-2 : tie.Need-returns-2
@@ -66,7 +65,7 @@ returns-2 c =
     let r = c .before .r .given .0 .0 in
     let at = row-at c in
     let st = start at in
-    record { cause = of-refused (input st) (st .args .i) r (sym (ap answerOf (c .before .r .given .1)) ∙ answered at); row = λ z. absurd (not-none r z) }
+    record { cause = of-refused (input st) (st .args .i) r (sym (ap answerOf (c .before .r .given .1)) ∙ answered at); bytes = refl }
 
 returns-3 : tie.Need-returns-3
 unfolding input
@@ -75,7 +74,7 @@ returns-3 c =
     let st = start (row .before .before .before) in
     record {
       cause = of-row (input st) (st .args .i) (row .row .given .0 .0) false (given row) (sym (c .before .is-finite-row .ensures) ∙ c .if1 .left);
-      row = λ z. absurd (not-none (NotFinite (st .args .i)) z);
+      bytes = refl;
     }
 
 pub put-row-spec : {M : Type 1} → statement M

@@ -9,13 +9,13 @@ use denote.Ref.{now}
 use borrow.Author.Needs.{needs}
 use Rattle.refusals.specs.Causes.{firstOf}
 use Rattle.refusals.specs.declared.Cause.the-variants.{None}
-use Rattle.refusals.proofs.Causes.{more, stop}
+use Rattle.refusals.proofs.Causes.{more}
 use Rattle.sheet_layout.specs.LittleEndian.{pack, bits}
 use Rattle.sheet_rows.specs.Kinds.{rowWidth}
-use Rattle.sheet.specs.Input.{SheetInput, stationCount, inputOf}
+use Rattle.sheet.specs.Input.{SheetInput, inputOf}
 use Rattle.sheet.specs.Bytes.{rows}
 use Rattle.sheet.specs.Writer.{stationCause}
-use Rattle.writer_rows.proofs.RowLaws.{not-none, next, all-rows}
+use Rattle.writer_rows.proofs.RowLaws.{next, row-written, row-left, up-to-refused, all-rows}
 use Rattle.writer_rows.proofs.put_rows.Statement.{statement}
 use Rattle.writer_rows.proofs.put_rows.Tie as tie
 
@@ -50,11 +50,12 @@ returns c =
     let put = put-row (c .before .before .before) in
     let at = put .before .before .before in
     let s = input (start at) in
+    let a = start at .args in
+    let i = at .loop .i in
     let r = c .before .cause .given .0 .0 in
-    record {
-      cause = sym (stop (stationCount s) (at .loop .i) (stationCause s) r (omega arith) (at .loop .inv .4) (sym (put .put-row .ensures .cause) ∙ c .before .cause .given .1));
-      rows = λ z. absurd (not-none r z);
-    }
+    let told = c .before .cause .given .1 in
+    let left = row-left s i _ (put .put-row .ensures) r told in
+    up-to-refused s (now (a .out)) (a .at) i r (omega arith) (at .loop .inv .4) (sym (put .put-row .ensures .cause) ∙ told) (left ∙ at .loop .inv .5)
 
 loop-again : tie.Need-loop-again Inv-loop μ-loop
 loop-again c =
@@ -69,7 +70,7 @@ loop-again c =
       at .loop .inv .2,
       omega arith,
       more i (stationCause (input st)) (at .loop .inv .4) (sym (put .put-row .ensures .cause) ∙ told),
-      next (input st) i (at .loop .inv .4) (now (a .out)) (a .at) (a .at + at .before .row-length .result * i) (ap (λ (x : ℕ). a .at + x) (place at)) (at .loop .inv .5) (put .put-row .ensures .row told),
+      next (input st) i (at .loop .inv .4) (now (a .out)) (a .at) (a .at + at .before .row-length .result * i) (ap (λ (x : ℕ). a .at + x) (place at)) (at .loop .inv .5) (row-written (input st) i _ (put .put-row .ensures) told),
     )
 
 returns-2 : tie.Need-returns-2 Inv-loop μ-loop
