@@ -14,8 +14,8 @@ use newtonian::add_vectors;
 // Document 01's limit of the different edges that may give a logarithm that is not finite.
 pub const EDGE_LIMIT: usize = 64;
 
-// Nine numbers to an edge.
-pub const BLOCK: usize = EDGE_LIMIT * 9;
+// Nine numbers to an edge: EDGE_LIMIT * 9.
+pub const BLOCK: usize = 576;
 
 // The key of the edge between the vertices i and j.
 pub fn edge_key(i: u32, j: u32) -> u64
