@@ -1,7 +1,7 @@
--- The edges that `addDyad` keeps are different. Assumes nothing. States, of edges that are different:
--- `add-itself`: after a dyad for the edge with the key k, that key is there once;
+-- The edges that `addDyad` keeps are different. Assumes nothing. States:
+-- `add-has`: after a dyad for the edge with the key k, that key is there; `add-itself`: once, if the edges were different;
 -- `add-other`: every other key is there as often as before;
--- `add-different`: so the edges stay different.
+-- `add-different`: so edges that are different stay so.
 use mathlib.Core.Bool.{Bool, cond, false, true}
 use mathlib.Core.List.{List, [], _∷_}
 use mathlib.Core.Logic.{⊎-elim}
@@ -44,6 +44,16 @@ add-other j k d (e ∷ es) n = go (eqb (e .key) k) (add-other j k d es n)
         → count j (edgeKeys (cond b (record { key = e .key; dyad = addMatrices (e .dyad) d } ∷ es) (e ∷ addDyad k d es))) ≡ count j (edgeKeys (e ∷ es))
     go true h = refl
     go false h = ap (λ (m : ℕ). one (eqb j (e .key)) + m) h
+
+pub add-has : (k : ℕ) (d : Hessian) (es : List Edge) → 1 ≤ count k (edgeKeys (addDyad k d es))
+unfolding addDyad
+add-has k d [] = omega (arith, one-same k k refl)
+add-has k d (e ∷ es) = go (eqb (e .key) k) refl (add-has k d es)
+  where
+    go : (b : Bool) → eqb (e .key) k ≡ b → 1 ≤ count k (edgeKeys (addDyad k d es))
+        → 1 ≤ count k (edgeKeys (cond b (record { key = e .key; dyad = addMatrices (e .dyad) d } ∷ es) (e ∷ addDyad k d es)))
+    go true q h = omega (arith, one-same k (e .key) (sym (eqb-true (e .key) k q)))
+    go false q h = omega arith
 
 pub add-different : (k : ℕ) (d : Hessian) (es : List Edge) → Different es → Different (addDyad k d es)
 add-different k d es h j = ⊎-elim (λ q. rw q (omega (arith, add-itself k d es (h k)))) (λ n. omega (arith, add-other j k d es n, h j)) (same? j k)
