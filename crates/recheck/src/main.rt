@@ -3,9 +3,5 @@ use libc::STDIN_FILENO;
 use libc::STDOUT_FILENO;
 
 fn main() {
-    let mut input = [0u8; 65537];
-    let n = io::read_full(STDIN_FILENO, &mut input);
-    let mut line = [0u8; 64];
-    let k = recheck_line::recheck_line(&input[..n], &mut line);
-    io::write_all(STDOUT_FILENO, &line[..k]);
+    recheck_line::recheck(STDIN_FILENO, STDOUT_FILENO);
 }

@@ -11,12 +11,14 @@ use lib.ListN.{length, getD, set, take, length-append}
 use lib.Seq.{sets, length-sets, length-take-le, take-suc}
 use borrow.Author.Tests.{lt-ltb, le-ltb}
 use Rattle.io.specs.Digits.{digits, Fewest}
+use Rattle.recheck_input.specs.declared.Input.{Input}
+use Rattle.recheck_input.specs.declared.Input.the-variants.{Bytes, Failed}
 use Rattle.refusals.specs.Answer.{Answer, value, refused}
-use Rattle.refusals.specs.declared.Refusal.the-variants.{TooMany}
+use Rattle.refusals.specs.declared.Refusal.the-variants.{TooMany, WrongLength}
 use Rattle.refusals.specs.Numbers.{numberOf, placeOf}
 use Rattle.sheet.specs.Checker.{checkSheet}
 use Rattle.sheet_layout.proofs.Stores.{sets-then}
-use Rattle.recheck_line.specs.Line.{places, decimal, acceptedWord, refusedWord, lineOf, answerLine, maxInput, recheckLine, lineRoom, LineAtStart}
+use Rattle.recheck_line.specs.Line.{places, decimal, acceptedWord, refusedWord, lineOf, answerLine, maxInput, recheckLine, inputLine, lineRoom, LineAtStart}
 
 ten-pos : (k : ℕ) → 0 < 10 ^ k
 ten-pos zero = omega arith
@@ -121,9 +123,15 @@ unfolding answerLine
 line-most (value found) = line-of-most acceptedWord (getD found 0 0) (getD found 1 0) (omega arith)
 line-most (refused r) = line-of-most refusedWord (numberOf r) (placeOf r) (omega arith)
 
--- so a line of `recheck_line` ends within the buffer
-pub line-fits : (b : List ℕ) {n : ℕ} {new old : List ℕ} → LineAtStart n new old (recheckLine b) → lineRoom ≤ length old → n ≤ length new
+recheck-most : (b : List ℕ) → length (recheckLine b) ≤ lineRoom
 unfolding recheckLine
-line-fits b {old = old} h r =
-    let m = line-most (cond (leb (length b) maxInput) (checkSheet b) (refused TooMany)) in
-    omega (arith, m, h .count, ap length (h .bytes), length-sets old 0 (recheckLine b))
+recheck-most b = line-most (cond (leb (length b) maxInput) (checkSheet b) (refused TooMany))
+
+input-most : (i : Input) (b : List ℕ) → length (inputLine i b) ≤ lineRoom
+unfolding inputLine
+input-most (Bytes n) b = recheck-most (take n b)
+input-most Failed b = line-most (refused WrongLength)
+
+-- so a line of `recheck_line` ends within the buffer
+pub line-fits : (i : Input) (b : List ℕ) {n : ℕ} {new old : List ℕ} → LineAtStart n new old (inputLine i b) → lineRoom ≤ length old → n ≤ length new
+line-fits i b {old = old} h r = omega (arith, input-most i b, h .count, ap length (h .bytes), length-sets old 0 (inputLine i b))

@@ -4,11 +4,13 @@ use mathlib.Core.Bool.{cond}
 use mathlib.Core.List.{List, [], _∷_, _++_}
 use Prim.Native.Nat.{ℕ, zero, suc, _/_}
 use lib.Dec.{ltb, leb}
-use lib.ListN.{length, getD}
+use lib.ListN.{length, getD, take}
 use lib.Seq.{sets}
 use Rattle.io.specs.Digits.{digits}
+use Rattle.recheck_input.specs.declared.Input.{Input}
+use Rattle.recheck_input.specs.declared.Input.the-variants.{Bytes, Failed}
 use Rattle.refusals.specs.Answer.{Answer, value, refused}
-use Rattle.refusals.specs.declared.Refusal.the-variants.{TooMany}
+use Rattle.refusals.specs.declared.Refusal.the-variants.{TooMany, WrongLength}
 use Rattle.refusals.specs.Numbers.{numberOf, placeOf}
 use Rattle.sheet.specs.Checker.{checkSheet}
 
@@ -43,6 +45,11 @@ maxInput = 65536
 
 unfoldable pub recheckLine : List ℕ → List ℕ
 recheckLine b = answerLine (cond (leb (length b) maxInput) (checkSheet b) (refused TooMany))
+
+-- what `recheck` prints of its input, of which n bytes stand at the start of b. Where a read failed the sheet is not there whole: `refused 16 0`
+unfoldable pub inputLine : Input → List ℕ → List ℕ
+inputLine (Bytes n) b = recheckLine (take n b)
+inputLine Failed b = answerLine (refused WrongLength)
 
 -- ---- a line in a lent buffer
 

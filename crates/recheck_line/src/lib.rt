@@ -1,14 +1,14 @@
 // The line that `recheck` prints.
 ghost use mathlib.Core.Path.{_≡_};
-ghost use Prim.Native.Nat.{_+_, _≤_};
-ghost use lib.ListN.{length};
+ghost use Prim.Native.Nat.{_+_, _≤_, _<_};
+ghost use lib.ListN.{length, take};
 ghost use lib.Seq.{sets};
 ghost use Rattle.sheet.specs.Checker.{verdictAnswer};
-ghost use Rattle.recheck_line.specs.Line.{decimal, lineOf, lineRoom, answerLine, recheckLine, LineAtStart};
+ghost use Rattle.recheck_line.specs.Line.{decimal, lineOf, lineRoom, answerLine, maxInput, recheckLine, inputLine, LineAtStart};
+use recheck_input::Input;
+use recheck_input::MAX_INPUT;
 use refusals::Refusal;
 use sheet::Verdict;
-
-const MAX_INPUT: usize = 65536;
 
 // Writes text from place at on.
 fn put(out: &mut [u8], at: usize, text: &[u8])
@@ -60,13 +60,34 @@ pub fn verdict_line(v: Verdict, out: &mut [u8]) -> usize
     }
 }
 
-// Writes the line that `recheck` prints of its input at the start of out, and answers how many bytes it has.
-pub fn recheck_line(input: &[u8], out: &mut [u8]) -> usize
-    requires { ⌜ lineRoom ≤ length (now out) ⌝ }
-    ensures { λ r. ⌜ LineAtStart r (now (out .exit)) (now (out .entry)) (recheckLine (now (input .entry))) ⌝ }
+// Writes the line that `recheck` prints of the first n bytes, which are all that was read.
+fn bytes_line(bytes: &[u8], n: usize, out: &mut [u8]) -> usize
+    requires { ⌜ (maxInput < length (now bytes)) × (lineRoom ≤ length (now out)) ⌝ }
+    ensures { λ r. ⌜ LineAtStart r (now (out .exit)) (now (out .entry)) (recheckLine (take n (now (bytes .entry)))) ⌝ }
 {
-    if MAX_INPUT < input.len() {
+    if MAX_INPUT < n {
         return verdict_line(Verdict::Refused(Refusal::TooMany), out);
     }
-    verdict_line(checker::check_sheet(input), out)
+    verdict_line(checker::check_sheet(&bytes[..n]), out)
+}
+
+// Writes the line that `recheck` prints of its input, which stands at the start of buffer, at the start of out, and answers how many bytes it has. Input that a failed read
+// cut off is refused by 16: the sheet is not there whole.
+pub fn recheck_line(buffer: &[u8; MAX_INPUT + 1], input: Input, out: &mut [u8]) -> usize
+    requires { ⌜ lineRoom ≤ length (now out) ⌝ }
+    ensures { λ r. ⌜ LineAtStart r (now (out .exit)) (now (out .entry)) (inputLine input (now (buffer .entry))) ⌝ }
+{
+    match input {
+        Input::Bytes(n) => bytes_line(buffer, n, out),
+        Input::Failed => verdict_line(Verdict::Refused(Refusal::WrongLength), out),
+    }
+}
+
+// The program `recheck`, whole: reads a sheet from the descriptor `input`, and writes its line to the descriptor `output`.
+pub fn recheck(input: i32, output: i32) {
+    let mut buffer = [0u8; MAX_INPUT + 1];
+    let read = recheck_input::read_input(input, &mut buffer);
+    let mut line = [0u8; 64];
+    let k = recheck_line(&buffer, read, &mut line);
+    io::write_all(output, &line[..k]);
 }

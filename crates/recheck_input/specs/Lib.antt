@@ -1,0 +1,2 @@
+-- What came of an input.
+pub mod Within
