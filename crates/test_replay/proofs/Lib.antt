@@ -1,3 +1,0 @@
--- Lemmas that the functions' proofs cite.
-pub mod Stores
-mod Words
