@@ -112,7 +112,7 @@ fn put_faces(faces: &mut [u32])
     }
 }
 
-fn try_faces() {
+fn write_faces(sheet: &mut [u8]) {
     let mut verts = vertex_room();
     put_corners(&mut verts);
     put_vertex(&mut verts, 49152, 8192.0, 1e8, 1000.0);
@@ -120,7 +120,6 @@ fn try_faces() {
     let mut faces = face_room();
     put_faces(&mut faces);
     let mut work = face_room();
-    let mut sheet = faces_sheet();
     let zero = vector(0.0, 0.0, 0.0);
     let stations = [0.0; 3];
     writer::write_sheet(
@@ -131,8 +130,13 @@ fn try_faces() {
         zero,
         &stations[..0],
         &mut work,
-        &mut sheet,
+        sheet,
     );
+}
+
+fn try_faces() {
+    let mut sheet = faces_sheet();
+    write_faces(&mut sheet);
     check(b"F = 32768", &sheet, 1572992);
     put_counts(&mut sheet, 1572948, 16386, 32769, 0);
     check(b"F = 32769", &sheet, 1573028);

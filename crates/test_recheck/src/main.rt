@@ -1,5 +1,6 @@
 // Runs what the program `recheck` runs on the files in data/, on a directory and on a descriptor that is not open. Prints for each its
-// name, how many bytes were read, or that a read failed, and the line of `recheck`.
+// name, how many bytes were read, or that a read failed, and the line of `recheck`. The file longest is the sheet of the tetrahedron T
+// with four vertices that no face uses and 740 times one station; too_long has one byte more.
 use libc::STDOUT_FILENO;
 use recheck_input::Input;
 use recheck_input::MAX_INPUT;
@@ -20,15 +21,17 @@ fn print_length(fd: i32) {
 // A file that cannot be opened has no line.
 fn try_file(path: &[u8]) {
     let first = os::open_read(path);
-    let second = os::open_read(path);
-    if second < 0 {
+    if first < 0 {
         os::fail(path);
         return;
     }
     io::write_all(STDOUT_FILENO, path);
     io::write_all(STDOUT_FILENO, b", ");
     print_length(first);
+    libc::close(first);
+    let second = os::open_read(path);
     recheck_line::recheck(second, STDOUT_FILENO);
+    libc::close(second);
 }
 
 fn main() {

@@ -1,6 +1,6 @@
 // Lists of the reference build's answers, for the programs that replay them: numbers of 16 hexadecimal digits, each followed by one byte, a
-// space or a line's end. Test programs are tested, each by a changed list on which it reports a difference, and not proved: of them only is
-// proved that they are safe and end.
+// space or a line's end. Test programs are tested, each by a changed list on which it reports a difference, and not proved: what is proved of
+// them is that they are safe and end.
 pub mod lines;
 pub mod runs;
 

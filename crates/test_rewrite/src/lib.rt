@@ -1,5 +1,5 @@
 // Writes what a sheet holds anew, and compares: a test of the writer and the checker against each other. Test programs are tested, each by a
-// changed list on which it reports a difference, and not proved: of them only is proved that they are safe and end.
+// changed list on which it reports a difference, and not proved: what is proved of them is that they are safe and end.
 ghost use mathlib.Core.Path.{_≡_};
 ghost use Prim.Native.Nat.{_+_, _*_, _≤_};
 ghost use lib.ListN.{length};
