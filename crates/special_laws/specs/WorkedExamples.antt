@@ -1,8 +1,8 @@
 -- Worked values of the definitions. Assumes nothing. States, as the Rust's documentation has them: `rc-is-π` and `rc-rounds-of-π`: R_C(0, 1/4) is π, after 4 rounds;
 -- `K-of-half`, `E-of-half`: K(1/2) = 1.854074677301372 and E(1/2) = 1.350643881047675 within 10⁻¹⁴; `cel-is-K`: cel(√(1/2), 1, 1, 1) = K(1/2) within 10⁻¹⁴.
 -- Besides, `ln-of-2`: ln 2 is LN2; `atan-of-1` and `atan-rounds-of-1`: atan 1 is π/4, after 3 rounds; `rf-rc-rd-check-values`, `rj-check-values`,
--- `rj-principal-check-values`: nine check values of Carlson 1995, section 3, within half a unit of the last digit printed. That paper was not at hand: its figures
--- are quoted from memory.
+-- `rj-principal-check-values`: nine check values of Carlson 1995, section 3, within half a unit of the last digit printed; the paper was not at hand, so its
+-- figures are still to be held against it.
 use mathlib.Core.Path.{_≡_, refl}
 use mathlib.Core.Bool.{Bool, true, false, _&&_, Bool·beq}
 use mathlib.Core.List.{List, [], _∷_}
