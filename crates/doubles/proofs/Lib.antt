@@ -9,3 +9,4 @@ pub mod Exactly
 pub mod SignBit
 pub mod Magnitude
 pub mod EitherWay
+pub mod Comparisons

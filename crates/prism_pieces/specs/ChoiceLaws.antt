@@ -21,7 +21,7 @@ use Rattle.prism_pieces.specs.declared.AxisRule.the-variants.{LastOfEqua
 use Rattle.prism_pieces.specs.declared.Axis.{Axis}
 use Rattle.prism_pieces.specs.declared.Axis.the-variants.{X, Y, Z}
 use Rattle.prism_pieces.specs.Choice.{countBelow, ceiling, lastLongest, longest, along}
-use Rattle.prism_pieces.specs.Comparisons.{less?, lt-not-le, lt-le, number-le-self, float-le-trans}
+use Rattle.doubles.proofs.Comparisons.{less?, lt-not-le, lt-le, number-le-self, float-le-trans}
 
 -- ---- what is stated
 

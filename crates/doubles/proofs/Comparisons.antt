@@ -1,4 +1,4 @@
--- A step towards `ChoiceLaws`: comparisons of doubles. States: `float-le-trans`: ≤ is transitive; `number-le-self`, `lt-le`; `lt-not-le`: of two numbers, infinities included, the
+-- Comparisons of doubles, infinities and NaNs included. States: `float-le-trans`: ≤ is transitive; `number-le-self`, `lt-le`; `lt-not-le`: of two numbers, infinities included, the
 -- first is less exactly where the second is not less than or equal to it. Assumes nothing.
 use mathlib.Core.Path.{_≡_, refl, sym, ap, _∙_}
 use mathlib.Core.Bool.{Bool, true, false, not, _&&_, _||_, Bool·beq, false≢true}
