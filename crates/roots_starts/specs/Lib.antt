@@ -1,0 +1,2 @@
+-- Start values for the root.
+pub mod Starts
