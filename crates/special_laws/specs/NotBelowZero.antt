@@ -1,5 +1,5 @@
--- Lemmas on finite numbers not below zero, -0 among them, for `ThreeInOrder` and `InnerRj`: their order, as the fractions `num` / `den`, the smaller and the larger of
--- two, and what R_J's domain says of three. Assumes nothing.
+-- Lemmas on finite numbers not below zero, -0 among them, for `ThreeInOrder` and `InnerRj`: their order, as the fractions `num` / `den`, the smaller and the
+-- larger of two, and what R_J's domain says of three. Assumes nothing.
 use mathlib.Core.Path.{_≡_, refl, sym, _∙_}
 use mathlib.Core.Logic.{_⊎_, inl, inr}
 use mathlib.Core.Bool.{Bool, true, false, not, _&&_, _||_, cond, true≢false}

@@ -2,15 +2,16 @@
 -- `K-of-half`, `E-of-half`: K(1/2) = 1.854074677301372 and E(1/2) = 1.350643881047675 within 10⁻¹⁴; `cel-is-K`: cel(√(1/2), 1, 1, 1) = K(1/2) within 10⁻¹⁴.
 -- Besides, `ln-of-2`: ln 2 is LN2; `atan-of-1` and `atan-rounds-of-1`: atan 1 is π/4, after 3 rounds; `rf-rc-rd-check-values`, `rj-check-values`,
 -- `rj-principal-check-values`: nine check values of Carlson 1995, section 3, within half a unit of the last digit printed; the paper was not at hand, so its
--- figures are still to be held against it.
+-- figures are still to be held against it. `ring-on-the-axis`, `ring-off-the-axis`: a ring's average and gradient within 10⁻¹⁴, on the axis 1/r and -z/r³.
 use mathlib.Core.Path.{_≡_, refl}
 use mathlib.Core.Bool.{Bool, true, false, _&&_, Bool·beq}
 use mathlib.Core.List.{List, [], _∷_}
 use Prim.Native.Nat.{ℕ, _+_, _-_, _*_, _^_}
 use lib.Dec.{leb}
 use lib.IntN.{negsuc}
-use lib.Ieee.{Float, nan, inf, fin, binary64, up, down, neg, ofInt, ofBits, isNan, add, sub, mul, div, lt, le, eq}
+use lib.Ieee.{Float, nan, inf, fin, binary64, up, down, neg, ofInt, ofBits, isNan, round, add, sub, mul, div, lt, le, eq}
 use Rattle.doubles.specs.Rounded.{_⊖_, _⊘_}
+use Rattle.doubles.specs.ConstantsAreNearest.{_over_}
 use Rattle.doubles.specs.Constants.{0·0, 0·5, 1·0, 2·0, 3·0, 4·0, 5·0, 10⁻¹⁴, π, LN2}
 use Rattle.doubles.specs.Magnitude.{abs, max, min}
 use Rattle.roots.specs.Root.{Root}
@@ -26,6 +27,8 @@ use Rattle.special_rf_rd.specs.Rf.{duplicateF, seriesF, duplicationsF, rf}
 use Rattle.special_rf_rd.specs.Rd.{duplicateD, seriesD, duplicationsD, rd}
 use Rattle.special_rj.specs.Rj.{plus, addRc, duplicateJ, maxDistanceJ, seriesJ, duplicationsJ, rjAbove, combine, rjSorted, rjBelow, rj}
 use Rattle.rings.specs.Elliptic.{nextMean, meanTest, elliptic}
+use Rattle.rings.specs.Ring.{offAxis, ∂ρ, ringAt}
+use Rattle.rings.specs.declared.RingAverage.{RingAverage}
 use Rattle.special_bulirsch.specs.Bulirsch.{firstHalf, secondHalf, turn, celTest, celEnd, celOf}
 use Rattle.special_laws.specs.RoundsTaken.{rcRounds, atanRounds}
 
@@ -69,6 +72,22 @@ E-of-half = refl
 pub cel-is-K : close (celOf (Root 0·5) 1·0 1·0 1·0) (elliptic 0·5 .k) ≡ true
 unfolding elliptic nextMean meanTest celOf celEnd celTest turn firstHalf secondHalf roundsFrom abs Root ofBits add sub mul div lt le eq
 cel-is-K = refl
+
+-- ---- the ring
+
+abbrev closeTo : RingAverage → Float → Float → Float → Bool
+closeTo r v drho dz = close (r .v) v && close (r .drho) drho && close (r .dz) dz
+
+-- R = 3, z = 4
+pub ring-on-the-axis : closeTo (ringAt 3·0 0·0 4·0) (1 over 5) 0·0 (neg (4 over 125)) ≡ true
+unfolding ringAt ∂ρ elliptic nextMean meanTest roundsFrom _over_ round abs Root ofBits add sub mul div lt le eq
+ring-on-the-axis = refl
+
+-- R = 2, ρ = z = 1: the means over the ring of 1/r and of its derivatives, summed over 400 points of it with 40 digits
+pub ring-off-the-axis :
+    closeTo (ringAt 2·0 1·0 1·0) (454413462627779 over (10 ^ 15)) (10043146144097 over (10 ^ 15)) (neg (118624938728993 over (10 ^ 15))) ≡ true
+unfolding ringAt ∂ρ offAxis elliptic nextMean meanTest celOf celEnd celTest turn firstHalf secondHalf roundsFrom _over_ round abs Root ofBits add sub mul div lt le eq
+ring-off-the-axis = refl
 
 -- ---- Carlson's check values, in three lists: antt's limit of steps stops one test of all nine
 
