@@ -1,2 +1,3 @@
 -- The magnetic anomaly of a uniformly magnetised infinite cylinder.
 pub mod Cylinder
+pub mod WorkedExamples
