@@ -4,7 +4,7 @@ ghost use Prim.Native.Nat.{_*_, _≤_, _<_};
 ghost use lib.ListN.{length};
 ghost use Rattle.refusals.specs.declared.Cause.the-variants.{None};
 ghost use Rattle.polyhedron_edge_face_sums.specs.KeptLogarithms.{Mated};
-ghost use Rattle.sheet_rows.specs.BodyWithCenter.{CenterOf};
+ghost use Rattle.sheet_rows.specs.BodyWithCenter.{centerOf};
 ghost use Rattle.sheet.specs.Checker.{kindIn, facesIn, stationsIn, parse, checkStation};
 ghost use Rattle.checker_lists.specs.Stages.{listsCause, Loaded, Ready};
 ghost use Rattle.checker_stations.specs.Outcome.{refusedBy, stationsOutcome};
@@ -41,7 +41,7 @@ fn check_station(
     mates: &[u32],
     logs: &mut [f64],
 ) -> Cause
-    requires { ⌜ Ready (now sheet) (now verts) (now faces) × CenterOf (kindIn (now sheet)) c (now verts) (now faces) × (i < stationsIn (now sheet))
+    requires { ⌜ Ready (now sheet) (now verts) (now faces) × (c ≡ centerOf (kindIn (now sheet)) (now verts) (now faces)) × (i < stationsIn (now sheet))
         × (m ≡ parse (now sheet) .magnetisation) × (a ≡ parse (now sheet) .ambient) × Mated (now faces) (now mates) (now logs) ⌝ }
     ensures { λ r. ⌜ r ≡ checkStation (now (sheet .entry)) (parse (now (sheet .entry))) i ⌝ }
     ensures { λ _. ⌜ length (now (logs .exit)) ≡ length (now (logs .entry)) ⌝ }
@@ -73,7 +73,7 @@ fn check_stations(
     mates: &[u32],
     logs: &mut [f64],
 ) -> Outcome
-    requires { ⌜ Ready (now sheet) (now verts) (now faces) × CenterOf (kindIn (now sheet)) c (now verts) (now faces) × Mated (now faces) (now mates) (now logs) ⌝ }
+    requires { ⌜ Ready (now sheet) (now verts) (now faces) × (c ≡ centerOf (kindIn (now sheet)) (now verts) (now faces)) × Mated (now faces) (now mates) (now logs) ⌝ }
     ensures { λ r. ⌜ r ≡ stationsOutcome (now (sheet .entry)) ⌝ }
 {
     let t = sheet_readers::trailer(sheet);
@@ -100,7 +100,7 @@ fn with_mates(
     mates: &mut [u32],
     logs: &mut [f64],
 ) -> Outcome
-    requires { ⌜ Ready (now sheet) (now verts) (now faces) × (listsCause (now sheet) ≡ None) × CenterOf (kindIn (now sheet)) c (now verts) (now faces)
+    requires { ⌜ Ready (now sheet) (now verts) (now faces) × (listsCause (now sheet) ≡ None) × (c ≡ centerOf (kindIn (now sheet)) (now verts) (now faces))
         × (length (now mates) ≡ 3 * facesIn (now sheet)) × (length (now logs) ≤ 3 * facesIn (now sheet)) ⌝ }
     ensures { λ r. ⌜ r ≡ stationsOutcome (now (sheet .entry)) ⌝ }
 {

@@ -10,7 +10,7 @@ ghost use Rattle.mesh.specs.Surface.{Body};
 ghost use Rattle.polyhedron_edge_face_sums.specs.KeptLogarithms.{Mated};
 ghost use Rattle.sheet_rows.specs.Kinds.{isMesh};
 ghost use Rattle.sheet_rows.specs.Row.{fieldAt, rowFrom, rowAt, rowNumbers, allFinite, isFiniteRow, rowCause, answerOf};
-ghost use Rattle.sheet_rows.specs.BodyWithCenter.{CenterOf, BodyWithCenter};
+ghost use Rattle.sheet_rows.specs.BodyWithCenter.{centerOf, BodyWithCenter};
 use crate::kinds::PLAIN_WIDTH;
 use newtonian::Field;
 use newtonian::Newtonian;
@@ -40,7 +40,7 @@ pub struct Center {
 // Taken once for all stations. A prism has none, and gets zeros.
 pub fn center_of(kind: u32, verts: &[f64], faces: &[u32], order: &[u32]) -> Center
     requires { ⌜ (isMesh kind ≡ true → Body (now verts) (now faces) × (now order ≡ orderList (now faces))) ⌝ }
-    ensures { λ r. ⌜ CenterOf kind r (now (verts .entry)) (now (faces .entry)) ⌝ }
+    ensures { λ r. ⌜ r ≡ centerOf kind (now (verts .entry)) (now (faces .entry)) ⌝ }
 {
     if kinds::is_mesh(kind) {
         let c = polyhedron_centroid::centroid(verts, faces, order);
