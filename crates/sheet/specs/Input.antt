@@ -32,6 +32,7 @@ module _ (s : SheetInput) where
   abbrev pub stationCount : ℕ
   stationCount = length (s .stations) / 3
 
+  -- three coordinates, as a vertex has
   abbrev pub stationAt : ℕ → Vector
   stationAt i = surface.vertex (s .stations) i
 

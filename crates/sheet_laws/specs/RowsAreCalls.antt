@@ -3,8 +3,9 @@
 -- `FieldFromCalls s i g`: the public call, with the body of s, answers the field g at station i;
 -- `RowFromCalls b i`: that is so of what the sheet b holds, for some field, and the bytes of row i are the bits of the row made from that field;
 -- `rows-are-calls`: so it is of every row of an accepted sheet; `written-rows`: and of one that the writer wrote;
+-- `row-elsewhere`: a station has the same row among other stations, under whatever number, where kind, body, magnetisation and ambient field are the same;
 -- `anomaly-from-body`, `total-from-call`: where the public `body` and `total_field` answer (they refuse by 3 what is over 10⁹), theirs are the row's numbers.
-use mathlib.Core.Path.{_≡_, sym, ap, _∙_}
+use mathlib.Core.Path.{_≡_, sym, ap, _∙_, subst}
 use mathlib.Core.Bool.{Bool, true, false, _&&_}
 use mathlib.Core.List.{List}
 use mathlib.Core.Logic.{⊎-elim}
@@ -38,9 +39,10 @@ use Rattle.sheet_layout.specs.LittleEndian.{pack, bits, IsBytes}
 use Rattle.sheet_rows.specs.Kinds.{isMesh, isPrism, axisRule, magneticConstant}
 use Rattle.sheet_rows.proofs.KindLaws.{prism-no-mesh}
 use Rattle.sheet_rows.specs.Row.{fieldAt, rowFrom, rowNumbers}
-use Rattle.sheet_rows.specs.StationNumber.{row-field}
+use Rattle.sheet_rows.specs.Row as row
+use Rattle.sheet_rows.specs.StationNumber.{row-field, rowAt-value}
 use Rattle.sheet_rows.specs.declared.Row.{Row}
-use Rattle.sheet.specs.Input.{SheetInput, stationCount, stationAt, rowAt}
+use Rattle.sheet.specs.Input.{SheetInput, inputOf, stationCount, stationAt, rowAt}
 use Rattle.sheet.specs.Bytes.{volume}
 use Rattle.sheet.specs.Checker.{kindIn, rowLength, rowStart, parse}
 use Rattle.sheet.specs.Promises.{AllInLimits, NoCause, Right, Kept}
@@ -129,10 +131,11 @@ rows-are-calls b k n h i l =
     let st = h .rows i l in
     let q = row-field (s .kind) (s .magnetisation) (s .ambient) i (stationAt s i) (s .vertices) (s .faces) (st .row) (st .given) in
     let count : i < stationCount s = omega (arith, h .stations, stations-read b) in
+    let made = sym (q .1) ∙ ap (λ (kind : ℕ). rowFrom kind (s .magnetisation) (s .ambient) (st .row .field)) (kind-read b) in
     record {
       field = st .row .field;
       answered = field-from-calls s (length (s .faces)) (length b) (h .sound) i count (st .row .field) (q .0);
-      stored = st .stored ∙ ap (λ (r : Row). pack 8 (bits (rowNumbers (kindIn b) r))) (sym (q .1) ∙ ap (λ (kind : ℕ). rowFrom kind (s .magnetisation) (s .ambient) (st .row .field)) (kind-read b));
+      stored = st .stored ∙ ap (λ (r : Row). pack 8 (bits (rowNumbers (kindIn b) r))) made;
     }
 
 pub written-rows : (s : SheetInput) (b : List ℕ) → IsBytes b → Kept s b → (i : ℕ) → i < stationCount s → RowFromCalls b i
@@ -140,20 +143,28 @@ written-rows s b B h i l =
     let e = ap stationCount (h .holds) in
     rows-are-calls b _ _ (right b B (h .accepted)) i (omega (arith, e, stations-read b))
 
+pub row-elsewhere : (s : SheetInput) (stations : List Float) (i j : ℕ) (r : Row) → stationAt s i ≡ vertex stations j → rowAt s i ≡ value r
+    → rowAt (inputOf (s .kind) (s .vertices) (s .faces) (s .magnetisation) (s .ambient) stations) j ≡ value r
+unfolding rowAt
+row-elsewhere s stations i j r q e =
+    let m = s .magnetisation in
+    let b = s .ambient in
+    subst (λ (p : Vector). row.rowAt (s .kind) m b j p (s .vertices) (s .faces) ≡ value r) q (rowAt-value (s .kind) m b i (stationAt s i) (s .vertices) (s .faces) j r e)
+
 -- ---- the public calls on the field's numbers
 
-given : {S : Type 0} (t : Bool) (r : Refusal) (x y : S) → orAnswer (unless t r) (value x) ≡ value y → x ≡ y
-given true r x y e = cc
-given false r x y e = absurd (let z : _≡_ {A = ℕ} 0 1 = cc in omega arith)
+not-refused : {S : Type 0} (t : Bool) (r : Refusal) (x y : S) → orAnswer (unless t r) (value x) ≡ value y → x ≡ y
+not-refused true r x y e = cc
+not-refused false r x y e = absurd (let z : _≡_ {A = ℕ} 0 1 = cc in omega arith)
 
 module _ (kind : ℕ) (m b : Vector) (g : Newtonian) where
   pub anomaly-from-body : (x : Vector) → magneticConstant kind ≡ μ₀/4π → body (g .hessian) m ≡ value x → rowFrom kind m b g .anomaly ≡ x
   unfolding rowFrom body
   anomaly-from-body x c e =
-      ap (λ (μ : Float). bodyOf μ (g .hessian) m) c ∙ given (hessianWithinLimits (g .hessian) && vectorWithinLimits m) OutOfLimits (bodyOf μ₀/4π (g .hessian) m) x e
+      ap (λ (μ : Float). bodyOf μ (g .hessian) m) c ∙ not-refused (hessianWithinLimits (g .hessian) && vectorWithinLimits m) OutOfLimits (bodyOf μ₀/4π (g .hessian) m) x e
 
   pub total-from-call : (t : Float) → totalField b (rowFrom kind m b g .anomaly) ≡ value t → rowFrom kind m b g .total ≡ t
   unfolding rowFrom totalField
   total-from-call t e =
       let anomaly = bodyOf (magneticConstant kind) (g .hessian) m in
-      given (bothWithinLimits b anomaly) OutOfLimits (totalFieldOf b anomaly) t e
+      not-refused (bothWithinLimits b anomaly) OutOfLimits (totalFieldOf b anomaly) t e

@@ -33,11 +33,13 @@ from-field kind m b (value g) r e =
     (ap {B = Answer Newtonian} value (ap (λ (s : Row). s .field) z), ap (λ (s : Row). rowFrom kind m b (s .field)) (sym z) ∙ z)
 from-field kind m b (refused q) r e = absurd (let z : _≡_ {A = ℕ} 0 1 = cc in omega arith)
 
-by-kind : (t : Bool) {a b c d : Answer Newtonian} (g : Newtonian) → (a ≡ value g → c ≡ value g) → (b ≡ value g → d ≡ value g) → cond t a b ≡ value g → cond t c d ≡ value g
+by-kind : (t : Bool) {a b c d : Answer Newtonian} (g : Newtonian) → (a ≡ value g → c ≡ value g) → (b ≡ value g → d ≡ value g)
+    → cond t a b ≡ value g → cond t c d ≡ value g
 by-kind true g h k e = h e
 by-kind false g h k e = k e
 
-refused-by-kind : (t : Bool) {a b c d : Answer Newtonian} (r q s : Refusal) → (a ≡ refused r → c ≡ refused q) → (b ≡ refused r → d ≡ refused s) → cond t a b ≡ refused r → cond t c d ≡ refused (cond t q s)
+refused-by-kind : (t : Bool) {a b c d : Answer Newtonian} (r q s : Refusal) → (a ≡ refused r → c ≡ refused q) → (b ≡ refused r → d ≡ refused s)
+    → cond t a b ≡ refused r → cond t c d ≡ refused (cond t q s)
 refused-by-kind true r q s h k e = h e
 refused-by-kind false r q s h k e = k e
 

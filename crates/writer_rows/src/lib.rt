@@ -27,6 +27,7 @@ fn put_row(
     requires { ⌜ BodyWithCenter kind c (now verts) (now faces) × (i < length (now stations) / 3) × (at + 8 * rowWidth kind ≤ length (now out)) ⌝ }
     ensures { λ r. ⌜ RowPut (inputOf kind (now (verts .entry)) (now (faces .entry)) magnetisation ambient (now (stations .entry))) i at r (now (out .entry)) (now (out .exit)) ⌝ }
 {
+    // A station is three coordinates, as a vertex is.
     let p = mesh::surface::vertex(stations, i);
     // No mates are at hand.
     let mut none = [0.0; 1];
