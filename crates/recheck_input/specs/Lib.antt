@@ -1,2 +1,2 @@
 -- What came of an input.
-pub mod Within
+pub mod CameWithin

@@ -71,8 +71,8 @@ fn bytes_line(bytes: &[u8], n: usize, out: &mut [u8]) -> usize
     verdict_line(checker::check_sheet(&bytes[..n]), out)
 }
 
-// Writes the line that `recheck` prints of its input, which stands at the start of buffer, at the start of out, and answers how many bytes it has. Input that a failed read
-// cut off is refused by 16: the sheet is not there whole.
+// Writes the line that `recheck` prints of its input, which stands at the start of buffer, at the start of out, and answers how many bytes it has. Input that
+// a failed read cut off is refused by 16: the sheet is not there whole.
 pub fn recheck_line(buffer: &[u8; MAX_INPUT + 1], input: Input, out: &mut [u8]) -> usize
     requires { ⌜ lineRoom ≤ length (now out) ⌝ }
     ensures { λ r. ⌜ LineAtStart r (now (out .exit)) (now (out .entry)) (inputLine input (now (buffer .entry))) ⌝ }

@@ -218,8 +218,8 @@ fn try_stations() {
     check(b"S = 65537", &sheet, 5767576);
 }
 
-// The limit of F, and then k times that of S. It calls itself, and k is known at run time only, so that the compiler leaves each its own stack frame: in one frame they would
-// not fit.
+// The limit of F, and then k times that of S. It calls itself, and k is known at run time only, so that the compiler leaves each its own stack frame: in one
+// frame they would not fit.
 fn try_limits(k: usize) {
     if k == 0 {
         try_faces();

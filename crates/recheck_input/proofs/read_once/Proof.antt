@@ -1,4 +1,4 @@
--- `recheck_input::read_once` meets its contract. The loop's invariant: the buffer keeps its length. The measure is the number of repeats that are left. Assumes nothing.
+-- `recheck_input::read_once` meets its contract. The loop's invariant: buf keeps its length. The measure: the repeats that are left. Assumes nothing.
 use mathlib.Core.Path.{_≡_}
 use native.Mathlib.Omega.{arith}
 use lib.ListN.{length}
@@ -17,5 +17,5 @@ returns c = omega (arith, c .count .ensures .0 .0)
 
 pub read-once-spec : {M : Type 1} → statement M
 read-once-spec =
-    tie.close (tie.spec Inv-loop μ-loop (λ c. search needs) (λ c κs. search needs) (λ c κs. search needs) (λ c. search needs) returns (λ c κs. search needs) (λ c. search needs) (λ c. tt) (λ c. search needs)
-    (λ c. search needs) (λ c. search needs) (λ c. search needs) (λ c. tt))
+    tie.close (tie.spec Inv-loop μ-loop (λ c. search needs) (λ c κs. search needs) (λ c κs. search needs) (λ c. search needs) returns (λ c κs. search needs)
+    (λ c. search needs) (λ c. tt) (λ c. search needs) (λ c. search needs) (λ c. search needs) (λ c. search needs) (λ c. tt))

@@ -1,4 +1,5 @@
 -- `recheck_line::bytes_line` meets its contract. Assumes nothing.
+use Prim.Native.Nat.{_≤_, _<_}
 use native.Mathlib.Omega.{arith}
 use lib.ListN.{length, take, length-take}
 use denote.Ref.{now}
@@ -22,7 +23,8 @@ returns : tie.Need-returns
 unfolding recheckLine
 returns c =
     let a = start (then1 c .before) .args in
-    rw (lt-leb (length (take (a .n) (now (a .bytes)))) maxInput (simp length-take (omega (arith, then1 c .if1 .taken, start (then1 c .before) .pre .0)))) (c .before .before .verdict-line .ensures)
+    let long : maxInput < length (take (a .n) (now (a .bytes))) = simp length-take (omega (arith, then1 c .if1 .taken, start (then1 c .before) .pre .0)) in
+    rw (lt-leb (length (take (a .n) (now (a .bytes)))) maxInput long) (c .before .before .verdict-line .ensures)
 
 slice-aggregate-check-sheet : tie.Need-slice-aggregate-check-sheet
 slice-aggregate-check-sheet c = simp length-take (omega arith)
@@ -32,7 +34,9 @@ unfolding recheckLine
 returns-2 c =
     let else1 = check-sheet c .before .before in
     let a = start (else1 .before) .args in
-    rw (le-leb (length (take (a .n) (now (a .bytes)))) maxInput (simp length-take (omega (arith, else1 .if1 .left))), ← check-sheet c .check-sheet .ensures .0) (c .before .before .verdict-line2 .ensures)
+    let short : length (take (a .n) (now (a .bytes))) ≤ maxInput = simp length-take (omega (arith, else1 .if1 .left)) in
+    rw (le-leb (length (take (a .n) (now (a .bytes)))) maxInput short, ← check-sheet c .check-sheet .ensures .0) (c .before .before .verdict-line2 .ensures)
 
 pub bytes-line-spec : {M : Type 1} → statement M
-bytes-line-spec = tie.close (tie.spec (λ c κs. search needs) (λ c. search needs) returns slice-aggregate-check-sheet (λ c κs. search needs) (λ c κs. search needs) (λ c. search needs) returns-2)
+bytes-line-spec =
+    tie.close (tie.spec (λ c κs. search needs) (λ c. search needs) returns slice-aggregate-check-sheet (λ c κs. search needs) (λ c κs. search needs) (λ c. search needs) returns-2)

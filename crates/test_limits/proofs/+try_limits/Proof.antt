@@ -25,4 +25,5 @@ abbrev claims : ℕ → try-limits-lts.Claims
 claims t = (try-faces-reads.Asked, try-faces-reads.Learnt, try-limits-below t, try-limits.Post, try-stations-reads.Asked, try-stations-reads.Learnt)
 
 pub +try-limits-spec : {M : Type 1} → statement M
-+try-limits-spec = close μ-try-limits λ t. try-limits-lts.spec (claims t) (try-limits-at t) try-limits.Post (λ c κs. search needs) (λ c. search needs) (λ c. search needs) (λ c κs. search needs) (λ c κs. search needs) (λ c. search needs)
++try-limits-spec = close μ-try-limits λ t. try-limits-lts.spec (claims t) (try-limits-at t) try-limits.Post (λ c κs. search needs) (λ c. search needs)
+    (λ c. search needs) (λ c κs. search needs) (λ c κs. search needs) (λ c. search needs)

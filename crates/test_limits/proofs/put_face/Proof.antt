@@ -12,4 +12,6 @@ slice-write-faces-3 : tie.Need-slice-write-faces-3
 slice-write-faces-3 c = simp (length-set, length-set) (omega arith)
 
 pub put-face-spec : {M : Type 1} → statement M
-put-face-spec = tie.close (tie.spec (λ c. search needs) (λ c. search needs) (λ c. search needs) (λ c. search needs) slice-write-faces-2 (λ c. search needs) (λ c. search needs) slice-write-faces-3 (λ c. search needs) (λ c. search needs))
+put-face-spec =
+    tie.close (tie.spec (λ c. search needs) (λ c. search needs) (λ c. search needs) (λ c. search needs) slice-write-faces-2 (λ c. search needs)
+    (λ c. search needs) slice-write-faces-3 (λ c. search needs) (λ c. search needs))

@@ -12,4 +12,6 @@ slice-write-verts-3 : tie.Need-slice-write-verts-3
 slice-write-verts-3 c = simp (length-set, length-set) (omega arith)
 
 pub put-vertex-spec : {M : Type 1} → statement M
-put-vertex-spec = tie.close (tie.spec (λ c. search needs) (λ c. search needs) (λ c. search needs) (λ c. search needs) slice-write-verts-2 (λ c. search needs) (λ c. search needs) slice-write-verts-3 (λ c. search needs) (λ c. search needs))
+put-vertex-spec =
+    tie.close (tie.spec (λ c. search needs) (λ c. search needs) (λ c. search needs) (λ c. search needs) slice-write-verts-2 (λ c. search needs)
+    (λ c. search needs) slice-write-verts-3 (λ c. search needs) (λ c. search needs))
