@@ -24,11 +24,13 @@ abbrev tooManyUnder : ℕ → Answer Newtonian → Answer Newtonian
 tooManyUnder j (value g) = value g
 tooManyUnder j (refused r) = refused (TooManyEdges j)
 
-under-near : (t : Bool) (x : Newtonian) (i j : ℕ) → tooManyUnder j (cond t (value x) (refused (TooManyEdges i))) ≡ cond t (value x) (refused (TooManyEdges j))
+under-near : (t : Bool) (x : Newtonian) (i j : ℕ)
+    → tooManyUnder j (cond t (value x) (refused (TooManyEdges i))) ≡ cond t (value x) (refused (TooManyEdges j))
 under-near true x i j = refl
 under-near false x i j = refl
 
-under-far : (t : Bool) (x : Newtonian) (j : ℕ) (a b : Answer Newtonian) → tooManyUnder j a ≡ b → tooManyUnder j (cond t (value x) a) ≡ cond t (value x) b
+under-far : (t : Bool) (x : Newtonian) (j : ℕ) (a b : Answer Newtonian) → tooManyUnder j a ≡ b
+    → tooManyUnder j (cond t (value x) a) ≡ cond t (value x) b
 under-far true x j a b e = refl
 under-far false x j a b e = e
 

@@ -25,7 +25,8 @@ under-join j (refused r) b = refl
 under-join j (value f) (refused r) = refl
 under-join j (value f) (value g) = refl
 
-under-piece : (j : ℕ) (q : Piece) (h k : Vector → Vector → Answer Newtonian) → ((u l : Vector) → tooDeepUnder j (h u l) ≡ k u l) → tooDeepUnder j (fieldOr q h) ≡ fieldOr q k
+under-piece : (j : ℕ) (q : Piece) (h k : Vector → Vector → Answer Newtonian) → ((u l : Vector) → tooDeepUnder j (h u l) ≡ k u l)
+    → tooDeepUnder j (fieldOr q h) ≡ fieldOr q k
 under-piece j (Whole f) h k e = refl
 under-piece j (Halves u l) h k e = e u l
 
@@ -33,7 +34,8 @@ under-pieces : (rule : AxisRule) (i j n : ℕ) (p lo hi : Vector) → tooDeepUnd
 unfolding pieces
 under-pieces rule i j zero p lo hi = under-piece j (pieceOf rule p lo hi) (λ u l. refused (TooDeep i)) (λ u l. refused (TooDeep j)) (λ u l. refl)
 under-pieces rule i j (suc n) p lo hi =
-    under-piece j (pieceOf rule p lo hi) (λ u l. join (pieces rule i n p lo u) (pieces rule i n p l hi)) (λ u l. join (pieces rule j n p lo u) (pieces rule j n p l hi))
+    under-piece j (pieceOf rule p lo hi) (λ u l. join (pieces rule i n p lo u) (pieces rule i n p l hi))
+    (λ u l. join (pieces rule j n p lo u) (pieces rule j n p l hi))
     (λ u l. under-join j (pieces rule i n p lo u) (pieces rule i n p l hi) ∙ ap₂ join (under-pieces rule i j n p lo u) (under-pieces rule i j n p l hi))
 
 module _ (rule : AxisRule) (i j : ℕ) (p lo hi : Vector) where

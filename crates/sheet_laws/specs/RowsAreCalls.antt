@@ -52,7 +52,7 @@ use Rattle.sheet_laws.specs.Demand3.{right}
 
 -- ---- the statements
 
--- the public `prism`, by a rule for the longest axis of its own
+-- the public `prism`, with the rule for the longest axis as a parameter
 abbrev pub prismBy : AxisRule → Vector → Vector → Vector → Answer Newtonian
 prismBy rule p lo hi = orAnswer (causeOf p lo hi) (prismAt rule 0 p lo hi)
 
@@ -61,12 +61,14 @@ pub record FieldFromCalls (s : SheetInput) (i : ℕ) (g : Newtonian) : Type 0 wh
   pub of-mesh : isMesh (s .kind) ≡ true → (n : ℕ) → length (s .faces) ≤ n → polyhedron (stationAt s i) (s .vertices) (s .faces) n ≡ value g
   -- from vertex 0 to vertex 1, by the kind's rule for the longest axis; and by the public call itself where that is its rule
   pub by-rule : isPrism (s .kind) ≡ true → prismBy (axisRule (s .kind)) (stationAt s i) (vertex (s .vertices) 0) (vertex (s .vertices) 1) ≡ value g
-  pub of-prism : isPrism (s .kind) ≡ true → axisRule (s .kind) ≡ LastOfEquals → prism (stationAt s i) (vertex (s .vertices) 0) (vertex (s .vertices) 1) ≡ value g
+  pub of-prism : isPrism (s .kind) ≡ true → axisRule (s .kind) ≡ LastOfEquals
+      → prism (stationAt s i) (vertex (s .vertices) 0) (vertex (s .vertices) 1) ≡ value g
 
 pub record RowFromCalls (b : List ℕ) (i : ℕ) : Type 0 where
   pub field : Newtonian
   pub answered : FieldFromCalls (parse b) i field
-  pub stored : take (rowLength b) (drop (rowStart b i) b) ≡ pack 8 (bits (rowNumbers (kindIn b) (rowFrom (kindIn b) (parse b .magnetisation) (parse b .ambient) field)))
+  pub stored : take (rowLength b) (drop (rowStart b i) b)
+      ≡ pack 8 (bits (rowNumbers (kindIn b) (rowFrom (kindIn b) (parse b .magnetisation) (parse b .ambient) field)))
 
 -- ---- no cause of the public calls holds of what a sheet was made from
 
@@ -149,7 +151,8 @@ unfolding rowAt
 row-elsewhere s stations i j r q e =
     let m = s .magnetisation in
     let b = s .ambient in
-    subst (λ (p : Vector). row.rowAt (s .kind) m b j p (s .vertices) (s .faces) ≡ value r) q (rowAt-value (s .kind) m b i (stationAt s i) (s .vertices) (s .faces) j r e)
+    subst (λ (p : Vector). row.rowAt (s .kind) m b j p (s .vertices) (s .faces) ≡ value r) q
+    (rowAt-value (s .kind) m b i (stationAt s i) (s .vertices) (s .faces) j r e)
 
 -- ---- the public calls on the field's numbers
 
@@ -161,7 +164,8 @@ module _ (kind : ℕ) (m b : Vector) (g : Newtonian) where
   pub anomaly-from-body : (x : Vector) → magneticConstant kind ≡ μ₀/4π → body (g .hessian) m ≡ value x → rowFrom kind m b g .anomaly ≡ x
   unfolding rowFrom body
   anomaly-from-body x c e =
-      ap (λ (μ : Float). bodyOf μ (g .hessian) m) c ∙ not-refused (hessianWithinLimits (g .hessian) && vectorWithinLimits m) OutOfLimits (bodyOf μ₀/4π (g .hessian) m) x e
+      ap (λ (μ : Float). bodyOf μ (g .hessian) m) c
+      ∙ not-refused (hessianWithinLimits (g .hessian) && vectorWithinLimits m) OutOfLimits (bodyOf μ₀/4π (g .hessian) m) x e
 
   pub total-from-call : (t : Float) → totalField b (rowFrom kind m b g .anomaly) ≡ value t → rowFrom kind m b g .total ≡ t
   unfolding rowFrom totalField

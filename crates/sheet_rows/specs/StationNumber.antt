@@ -26,7 +26,8 @@ use Rattle.sheet_rows.specs.RowRefusals.{of-field}
 same-row : (x y : Row) → _≡_ {A = Answer Row} (value x) (value y) → x ≡ y
 same-row x y e = cc
 
-from-field : (kind : ℕ) (m b : Vector) (a : Answer Newtonian) (r : Row) → inRow kind m b a ≡ value r → (a ≡ value (r .field)) × (rowFrom kind m b (r .field) ≡ r)
+from-field : (kind : ℕ) (m b : Vector) (a : Answer Newtonian) (r : Row) → inRow kind m b a ≡ value r
+    → (a ≡ value (r .field)) × (rowFrom kind m b (r .field) ≡ r)
 unfolding rowFrom
 from-field kind m b (value g) r e =
     let z = same-row (rowFrom kind m b g) r e in
@@ -58,11 +59,14 @@ module _ (kind : ℕ) (m b : Vector) (i : ℕ) (p : Vector) (v : List Float) (f 
       let h = from-field kind m b (fieldAt kind i p v f) r e in
       ap (inRow kind m b) (fieldAt-value j (r .field) (h .0)) ∙ ap {B = Answer Row} value (h .1)
 
-  field-refusal : (j : ℕ) (r : Refusal) → fieldAt kind i p v f ≡ refused r → fieldAt kind j p v f ≡ refused (cond (isMesh kind) (TooManyEdges j) (TooDeep j))
+  field-refusal : (j : ℕ) (r : Refusal) → fieldAt kind i p v f ≡ refused r
+      → fieldAt kind j p v f ≡ refused (cond (isMesh kind) (TooManyEdges j) (TooDeep j))
   unfolding fieldAt
   field-refusal j r e =
-      refused-by-kind (isMesh kind) r (TooManyEdges j) (TooDeep j) (polyhedronAt-too-many i j p v f r) (prismAt-too-deep (axisRule kind) i j p (vertex v 0) (vertex v 1) r) e
+      refused-by-kind (isMesh kind) r (TooManyEdges j) (TooDeep j) (polyhedronAt-too-many i j p v f r)
+      (prismAt-too-deep (axisRule kind) i j p (vertex v 0) (vertex v 1) r) e
 
-  pub rowAt-refusal : (j : ℕ) (r : Refusal) → rowAt kind m b i p v f ≡ refused r → rowAt kind m b j p v f ≡ refused (cond (isMesh kind) (TooManyEdges j) (TooDeep j))
+  pub rowAt-refusal : (j : ℕ) (r : Refusal) → rowAt kind m b i p v f ≡ refused r
+      → rowAt kind m b j p v f ≡ refused (cond (isMesh kind) (TooManyEdges j) (TooDeep j))
   unfolding rowAt
   rowAt-refusal j r e = ap (inRow kind m b) (field-refusal j r (of-field kind m b (fieldAt kind i p v f) r e))

@@ -26,7 +26,8 @@ mesh c = sym (c .before .is-mesh .ensures) ∙ c .if1 .taken
 prism : (c : tie.Else1) → isMesh (start (c .before) .args .kind) ≡ false
 prism c = sym (c .before .is-mesh .ensures) ∙ c .if1 .left
 
-mesh-center : (kind : ℕ) (c : Center) (v : List Float) (f : List ℕ) → isMesh kind ≡ true → c ≡ centerOf kind v f → (c .centroid ≡ centroid v f) × (c .radius ≡ radius (centroid v f) v f)
+mesh-center : (kind : ℕ) (c : Center) (v : List Float) (f : List ℕ) → isMesh kind ≡ true → c ≡ centerOf kind v f
+    → (c .centroid ≡ centroid v f) × (c .radius ≡ radius (centroid v f) v f)
 unfolding centerOf
 mesh-center kind c v f m e = (ap (λ (d : Center). d .centroid) e ∙ rw m, ap (λ (d : Center). d .radius) e ∙ rw m)
 
