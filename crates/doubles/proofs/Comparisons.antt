@@ -1,12 +1,11 @@
 -- Comparisons of doubles, infinities and NaNs included. States: `float-le-trans`: ≤ is transitive; `number-le-self`, `lt-le`; `lt-not-le`: of two numbers, infinities included, the
 -- first is less exactly where the second is not less than or equal to it. Assumes nothing.
 use mathlib.Core.Path.{_≡_, refl, sym, ap, _∙_}
-use mathlib.Core.Bool.{Bool, true, false, not, _&&_, _||_, Bool·beq, false≢true}
+use mathlib.Core.Bool.{Bool, true, false, not, _&&_, _||_, false≢true}
 use mathlib.Core.Logic.{_⊎_, inl, inr, ⊎-elim}
 use Prim.Native.Nat.{ℕ, _+_, _*_, _≤_, _<_}
 use native.Mathlib.Nat.{eq-or-lt-of-le, eq-zero-or-pos, zero-mul, mul-pos}
 use native.Mathlib.Omega.{arith}
-use lib.IntN.{ℤ}
 use lib.Dec.{ltb, eqb}
 use lib.Ieee.{Float, nan, inf, fin, up, down, below, level, lt, le, eq, ne, isNan}
 use lib.Ieee.Fits.{down-pos}

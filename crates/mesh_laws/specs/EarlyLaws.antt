@@ -27,7 +27,7 @@ use Rattle.mesh.specs.Accepted.{Counted}
 use Rattle.mesh.specs.CauseLaws.{none-malformed, malformed-none, none-many, many-none, none-short, short-none, none-limits, limits-none, none-vertex}
 use Rattle.mesh.proofs.CauseNumbers.{Only, NumberWithin, only-else, skip, decided, only-malformed, only-many, only-short, only-limits, only-vertex, only-order}
 use Rattle.mesh_laws.specs.Refused.{NotTriples, Triples, OverLimit, CountsWithin, NumberOutside, NumbersWithin, FirstNoVertex}
-use Rattle.mesh_laws.specs.Smallest.{FirstFail, first-fail}
+use Rattle.mesh_laws.specs.Smallest.{first-fail}
 use Rattle.mesh_laws.specs.Laws.{answer-refused}
 
 -- ---- tests that fail
@@ -202,7 +202,8 @@ module _ (v : List Float) (f : List ℕ) (n : ℕ) where
       let b = skip (NumberWithin 2 2) (tooMany v f) after2 r (only-many v f) k (a .1) in
       (a .0, none-many v f (b .0), b .1)
 
-  past12 : (r : Refusal) → (NumberWithin 1 1 r → ⊥) → (NumberWithin 2 2 r → ⊥) → (NumberWithin 12 12 r → ⊥) → checkMesh v f n ≡ refused r → Counted v f n × (after12 ≡ Refused r)
+  past12 : (r : Refusal) → (NumberWithin 1 1 r → ⊥) → (NumberWithin 2 2 r → ⊥) → (NumberWithin 12 12 r → ⊥) → checkMesh v f n ≡ refused r
+      → Counted v f n × (after12 ≡ Refused r)
   past12 r h k l e =
       let a = past2 r h k e in
       let b = skip (NumberWithin 12 12) (tooShort f n) after12 r (only-short v f n) l (a .2) in

@@ -1,8 +1,9 @@
 -- What the answers of `check_mesh` mean. States, each both ways: `accepted`, `accepts`: a mesh is accepted exactly where it is sound and closed, no computed normal is zero and the
 -- computed volume, which is the answer, is above 0; `flipped`, `flips` and `is-open`, `opens`: Flipped and Open name the smallest edge; `degenerate`, `degenerates`: Degenerate names
--- the first face; `is-inverted`, `inverts`. Also `accepted-work`: the order list in work; `checked`, `checks`: what `check_surface` leaves. Assumes nothing.
+-- the first face; `is-inverted`, `inverts`. Also `accepted-work`: the order list in work; `checked`, `checks`: what `check_surface` leaves. `EarlyLaws` has the answers 1, 2, 12, 3 and 4.
+-- Assumes nothing.
 use mathlib.Core.Path.{_≡_, refl, sym, ap, _∙_}
-use mathlib.Core.Bool.{true, false}
+use mathlib.Core.Bool.{false}
 use mathlib.Core.List.{List, _++_}
 use Prim.Native.Nat.{ℕ, _≤_, _<_}
 use native.Mathlib.Omega.{arith}

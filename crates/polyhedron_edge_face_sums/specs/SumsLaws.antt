@@ -22,7 +22,6 @@ use Rattle.polyhedron_on_edge.specs.OnEdge.{addDyad, edgeKey}
 use Rattle.polyhedron_edge_terms.specs.Corners.{seen}
 use Rattle.polyhedron_edge_terms.specs.EdgeTerms.{addEdgeTerms, addFaceTerms, dyad, logarithm}
 use Rattle.polyhedron_edge_terms.specs.SolidAngle.{solidAngle}
-use Rattle.polyhedron_edge_terms.specs.declared.Corner.{Corner}
 use Rattle.polyhedron_edge_terms.specs.declared.Side.{Side}
 use Rattle.polyhedron_edge_face_sums.specs.declared.Triangle.{Triangle}
 use Rattle.polyhedron_edge_face_sums.specs.EdgeFaceSums.{Sums, addSide, addTriangle, noFaces, sumsOf, triangleOf}
@@ -114,7 +113,10 @@ module _ (p : Vector) (t : Triangle) (s : Sums) where
   face-kept : (j : ℕ) → KeepsEdge (addTriangle p t s) j → KeepsEdge s j ⊎ FaceNotFinite p t j
   unfolding addTriangle
   face-kept j h =
-      ⊎-elim (λ h₂. ⊎-elim (λ h₁. ⊎-elim (λ h₀. inl h₀) (λ x. inr (inl x)) (side-kept p (t .a) (t .b) n (t .ab) s₀ j h₁)) (λ x. inr (inr (inl x))) (side-kept p (t .b) (t .c) n (t .bc) s₁ j h₂))
+      ⊎-elim
+      (λ h₂. ⊎-elim
+      (λ h₁. ⊎-elim (λ h₀. inl h₀) (λ x. inr (inl x)) (side-kept p (t .a) (t .b) n (t .ab) s₀ j h₁))
+      (λ x. inr (inr (inl x))) (side-kept p (t .b) (t .c) n (t .bc) s₁ j h₂))
       (λ x. inr (inr (inr x))) (side-kept p (t .c) (t .a) n (t .ca) s₂ j h)
 
   kept-face : (j : ℕ) → KeepsEdge s j ⊎ FaceNotFinite p t j → KeepsEdge (addTriangle p t s) j

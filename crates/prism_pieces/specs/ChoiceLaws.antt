@@ -2,7 +2,7 @@
 -- `ceiling-kept`, `kept-ceiling`: for a number x `ceiling x` is ⌈x⌉ kept within 1 and `maxOrder` + 1 (`KeptCeiling`), and nothing else is; `ceiling-of-nan`: of a NaN it is 1;
 -- `longest-chosen`, `chosen-longest`: for half-widths that are numbers `longest rule h` is an axis of the largest, and of equal ones that of the rule (`Chosen`), and no other axis is.
 -- Assumes nothing.
-use mathlib.Core.Path.{_≡_, refl, sym, ap, _∙_, subst}
+use mathlib.Core.Path.{_≡_, refl, sym, ap, _∙_}
 use mathlib.Core.Bool.{Bool, true, false, not, cond, false≢true}
 use mathlib.Core.Logic.{⊎-elim}
 use Prim.Native.Nat.{ℕ, zero, suc, _+_, _-_, _*_, _/_, _%_, _^_, _≤_, _<_, compare}
@@ -46,6 +46,7 @@ IsLongest h a = (b : Axis) → le (along b h) (along a h) ≡ true
 abbrev pub Decides : AxisRule → Vector → Axis → Type 0
 Decides LastOfEquals h a = (b : Axis) → axisNumber a < axisNumber b → lt (along b h) (along a h) ≡ true
 
+-- a is a longest axis, and that of the rule
 pub record Chosen (rule : AxisRule) (h : Vector) (a : Axis) : Type 0 where
   pub longest : IsLongest h a
   pub decided : Decides rule h a
