@@ -1,3 +1,2 @@
 -- The magnetic anomaly of a uniformly magnetised infinite cylinder.
 pub mod Cylinder
-pub mod WorkedExamples
