@@ -2,7 +2,7 @@
 -- is magnetised at χ/(1 + χ/3) times the field, which is 6, within 10⁻¹⁴. Assumes nothing.
 use mathlib.Core.Path.{_≡_, refl}
 use mathlib.Core.Bool.{Bool, true, _&&_}
-use lib.Ieee.{Float, binary64, round, ofBits, add, sub, mul, div, neg, lt, le, eq, isNan}
+use lib.Ieee.{Float, round, ofBits, add, sub, mul, div, neg, lt, le, eq, isNan}
 use Rattle.doubles.specs.Rounded.{_⊖_}
 use Rattle.doubles.specs.ConstantsAreNearest.{_over_}
 use Rattle.doubles.specs.Constants.{0·0, 3·0, 4·0, 6·0, 10⁻¹⁴}

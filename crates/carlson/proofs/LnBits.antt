@@ -1,7 +1,8 @@
 -- ln from a bit pattern is ln: the pattern's digits and field are the split of the number into 2^k t. Assumes nothing.
 use mathlib.Core.Path.{_≡_, sym, ap, ap₂, _∙_, subst}
 use Prim.Native.Nat.{ℕ, zero, suc, _+_, _-_, _*_, _/_, _%_, _^_, _≤_, _<_}
-use native.Mathlib.Nat.{eq-of-mul-eq-mul-right, one-mul, le-of-suc-le-suc, le-of-lt, le-trans, le-of-eq, lt-of-lt-of-le, lt-irrefl, not-le-of-lt, lt-of-not-le, mul-one, mul-assoc, mul-right-comm, mul-pos, mul-le-mul-right, lt-of-mul-lt-mul-right, le-of-mul-le-mul-right, zero-lt-suc}
+use native.Mathlib.Nat.{eq-of-mul-eq-mul-right, one-mul, le-of-suc-le-suc, le-of-lt, le-trans, le-of-eq, lt-of-lt-of-le, lt-irrefl, not-le-of-lt}
+use native.Mathlib.Nat.{lt-of-not-le, mul-one, mul-assoc, mul-right-comm, mul-pos, mul-le-mul-right, lt-of-mul-lt-mul-right, le-of-mul-le-mul-right, zero-lt-suc}
 use native.Mathlib.Omega.{arith}
 use mathlib.Core.Bool.{Bool, true, false, not, cond}
 use lib.IntN.{ℤ, pos, _+ℤ_, _-ℤ_, +ℤ-idr}

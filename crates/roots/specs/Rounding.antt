@@ -4,7 +4,8 @@
 use mathlib.Core.Path.{_≡_, refl, sym, ap, _∙_, subst}
 use mathlib.Core.Logic.{_⊎_, inl, inr, ⊎-elim}
 use Prim.Native.Nat.{ℕ, zero, suc, _+_, _-_, _*_, _/_, _%_, _^_, _≤_, _<_, compare, Ordering, Ordering·lt, Ordering·eq, Ordering·gt}
-use native.Mathlib.Nat.{le-trans, le-of-eq, le-of-lt, lt-of-lt-of-le, lt-of-le-of-lt, lt-of-not-le, mul-le-mul, mul-le-mul-left, mul-le-mul-right, mul-lt-mul-of-pos-left, mul-lt-mul-of-pos-right, lt-of-mul-lt-mul-right, mul-assoc, div-mul-le-self, lt-div-mul-add, le-div-iff-mul-le}
+use native.Mathlib.Nat.{le-trans, le-of-eq, le-of-lt, lt-of-lt-of-le, lt-of-le-of-lt, lt-of-not-le, mul-le-mul, mul-le-mul-left}
+use native.Mathlib.Nat.{mul-le-mul-right, mul-lt-mul-of-pos-left, mul-lt-mul-of-pos-right, lt-of-mul-lt-mul-right, mul-assoc, div-mul-le-self, lt-div-mul-add, le-div-iff-mul-le}
 use native.Mathlib.Omega.{arith}
 use native.Mathlib.Decide.{decLe}
 use mathlib.Core.Bool.{false, not}

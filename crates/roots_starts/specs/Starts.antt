@@ -1,4 +1,4 @@
--- The table of `parabola`: a parabola for 1 / √x on each of 512 intervals. Nothing rests on it: a wrong start value costs the root time, and no bit. Definitions only.
+-- The table of `parabola`: a parabola for 1 / √x on each of 512 intervals. Nothing rests on it: a wrong start value costs time, and no bit. Definitions only.
 use mathlib.Core.List.{List, [], _∷_}
 use Prim.Native.Nat.{ℕ}
 use lib.ListN.{getD}

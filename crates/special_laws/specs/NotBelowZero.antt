@@ -7,7 +7,7 @@ use Prim.Native.Nat.{ℕ, zero, suc, _+_, _*_, _≤_, _<_, zero-le}
 use native.Mathlib.Nat.{le-trans, le-of-eq, le-of-lt, le-refl, mul-pos, zero-lt-suc}
 use native.Mathlib.Omega.{arith}
 use lib.Dec.{T, eqb, ltb→lt, nltb→le, lt→ltb, eqb→eq}
-use lib.Ieee.{Float, nan, inf, fin, binary64, up, down, lt, le, eq, fits, ofBits, isNan}
+use lib.Ieee.{Float, nan, inf, fin, up, down, lt, le, eq, ofBits, isNan}
 use lib.Ieee.Fits.{and-l, up-pos}
 use lib.Ieee.Positive.{num, den, den-pos, positive, first-pos, through}
 use borrow.Author.Tests.{not-true}

@@ -1,15 +1,15 @@
 -- R_J for p below zero takes x, y and z in ascending order by `min` and `max` (`leastOf`, `middleOf`, `greatestOf`). Of doubles in R_J's domain this states:
 -- `in-some-order`: they are x, y, z in one of the six orders; `ascending`: none is below the one before it; `middle-above`: the middle one is above zero.
 -- Of two equal numbers `min` and `max` both give the first, so that of +0 and -0 one would be lost; but the domain has at most one zero. Assumes nothing.
-use mathlib.Core.Path.{_≡_, refl, sym, subst}
+use mathlib.Core.Path.{_≡_, refl, sym}
 use mathlib.Core.Logic.{inl, inr}
-use mathlib.Core.Bool.{Bool, true, false, _||_, cond}
-use Prim.Native.Nat.{ℕ, zero, suc, _*_, _≤_, _<_}
+use mathlib.Core.Bool.{Bool, true, false, cond}
+use Prim.Native.Nat.{ℕ, zero, suc, _*_, _<_}
 use native.Mathlib.Nat.{le-of-lt, le-antisymm}
 use native.Mathlib.Omega.{arith}
 use lib.Dec.{T}
-use lib.Ieee.{Float, nan, inf, fin, binary64, up, lt, fits, isNan}
-use lib.Ieee.Positive.{num, den}
+use lib.Ieee.{Float, nan, inf, fin, binary64, up, lt, fits}
+use lib.Ieee.Positive.{num}
 use Rattle.doubles.specs.Magnitude.{max, min}
 use Rattle.doubles.proofs.Value.{same-value}
 use Rattle.doubles.proofs.Signs.{true→T, false→T}
