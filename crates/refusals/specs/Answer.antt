@@ -1,4 +1,5 @@
--- What a public call answers: a value, or a refusal. Each call has an enum of its own for its answer; a definition `answerOf` beside it gives the answer of each case.
+-- What a public call answers: a value, or a refusal. Each call has an enum of its own for its answer; a definition beside it, `answerOf` or `integralAnswer` and
+-- their like, gives the answer of each case.
 -- Definitions only.
 use Rattle.refusals.specs.declared.Refusal.{Refusal}
 use Rattle.refusals.specs.declared.Cause.{Cause}
