@@ -1,0 +1,1 @@
+../../recheck/src/main.rt
