@@ -34,6 +34,12 @@ def files_below(folder):
             yield os.path.join(where, name)
 
 
+def cases_of(path):
+    """How many functions an edit changes, each of which must be refused; one where it does not name them."""
+    with open(path, encoding="utf-8") as file:
+        return max(1, sum(1 for line in file if line.startswith("refused: ")))
+
+
 def sizes(crate):
     folder = os.path.join("crates", crate)
     code = sum(lines_of(p) for p in files_below(os.path.join(folder, "src")))
@@ -46,8 +52,8 @@ def sizes(crate):
         else:
             laws += lines_of(path)
     proofs = sum(lines_of(p) for p in files_below(os.path.join(folder, "proofs")) if os.path.basename(p) != "Lib.antt")
-    edits = sum(1 for p in files_below(os.path.join(folder, "must-fail")) if p.endswith(".edit"))
-    return [code, definitions, laws, proofs, edits]
+    cases = sum(cases_of(p) for p in files_below(os.path.join(folder, "must-fail")) if p.endswith(".edit"))
+    return [code, definitions, laws, proofs, cases]
 
 
 def times(log):

@@ -10,9 +10,9 @@ use Rattle.refusals.specs.declared.Cause.the-variants.{None, Refused}
 use Rattle.sheet.specs.Checker.{kindIn, stationsIn, checkerCause, openingCause, checkSheet}
 use Rattle.sheet_laws.specs.Reading.{stations-read}
 use Rattle.checker_lists.specs.Stages.{indicesCause, listsCause, volumeCause, stationsCause}
-use Rattle.checker_stations.specs.Outcome.{refusedBy, outcomeOr, stationsOutcome}
+use Rattle.checker_stations.specs.Outcome.{outcomeOr, stationsOutcome}
 use Rattle.checker_stations.specs.declared.Outcome.{Outcome}
-use Rattle.checker.specs.Later.{laterOutcome}
+use Rattle.checker_rooms.specs.Later.{laterOutcome}
 
 in-turn : (a b c : Cause) → orElse (orElse a b) c ≡ orElse a (orElse b c)
 in-turn None b c = refl
@@ -27,21 +27,6 @@ first-cause (Refused r) o = refl
 pub staged : (b : List ℕ) → checkerCause b ≡ orElse (openingCause b) (laterOutcome b .cause)
 unfolding checkerCause openingCause laterOutcome listsCause indicesCause volumeCause stationsOutcome stationsCause
 staged b = simp (first-cause, in-turn, stations-read b)
-
--- ---- what is found at each stage
-
-module _ (b : List ℕ) where
-  pub lists-first : (r : Refusal) → listsCause b ≡ Refused r → refusedBy r ≡ laterOutcome b
-  unfolding laterOutcome outcomeOr
-  lists-first r e = rw e
-
-  pub volume-next : (r : Refusal) → listsCause b ≡ None → volumeCause b ≡ Refused r → refusedBy r ≡ laterOutcome b
-  unfolding laterOutcome outcomeOr
-  volume-next r p e = rw (p, e)
-
-  pub stations-last : listsCause b ≡ None → volumeCause b ≡ None → stationsOutcome b ≡ laterOutcome b
-  unfolding laterOutcome outcomeOr
-  stations-last p q = rw (p, q)
 
 -- ---- the answer
 

@@ -1,8 +1,4 @@
-// `check_sheet`: is every byte of a sheet what the definitions give? One way down: the opening here, room for the body's size in `rooms`, the lists, the body and the
-// stations in `stages`.
-mod rooms;
-mod stages;
-
+// `check_sheet`: is every byte of a sheet what the definitions give? The opening here; the lists, the body and the stations in `checker_rooms`, in room for the body's size.
 ghost use mathlib.Core.Path.{_≡_};
 ghost use Prim.Native.Nat.{ℕ};
 ghost use Rattle.sheet.specs.Checker.{verdictAnswer, checkSheet};
@@ -20,7 +16,7 @@ pub fn check_sheet(sheet: &[u8]) -> Verdict
     if let Cause::Refused(r) = opening {
         return Verdict::Refused(r);
     }
-    let outcome = rooms::in_smallest_room(sheet);
+    let outcome = checker_rooms::rooms::in_smallest_room(sheet);
     let cause = outcome.cause;
     if let Cause::Refused(r) = cause {
         return Verdict::Refused(r);

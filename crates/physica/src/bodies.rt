@@ -56,9 +56,6 @@ pub extern "C" fn physica_polyhedron(
     ensures { λ r. ⌜ GivesValues fieldNumbers (polyhedron (vectorOf (now (station .entry))) (now (verts .entry)) (now (faces .entry)) (length (now (work .entry)))) r (now (out .entry)) (now (out .exit)) (now (values .exit)) ⌝ }
     ensures work { λ _. ⌜ now (work .exit) ≡ workAfter (polyhedronCause (vectorOf (now (station .entry))) (now (verts .entry)) (now (faces .entry)) (length (now (work .entry)))) (now (faces .entry)) (now (work .entry)) ⌝ }
 {
-    give_field(
-        polyhedron::polyhedron(vector_of(station), verts, faces, work),
-        out,
-        values,
-    )
+    let field = polyhedron::polyhedron(vector_of(station), verts, faces, work);
+    give_field(field, out, values)
 }

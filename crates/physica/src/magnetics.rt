@@ -21,10 +21,8 @@ pub extern "C" fn physica_body(
 ) -> u32
     ensures { λ r. ⌜ Gives vectorNumbers (body (hessianOf (now (hessian .entry))) (vectorOf (now (magnetisation .entry)))) r (now (out .entry)) (now (out .exit)) ⌝ }
 {
-    give_vector(
-        anomaly::body(hessian_of(hessian), vector_of(magnetisation)),
-        out,
-    )
+    let field = anomaly::body(hessian_of(hessian), vector_of(magnetisation));
+    give_vector(field, out)
 }
 
 // What a total-field magnetometer reads (T): 3.
