@@ -8,12 +8,15 @@ use lib.ListN.{length, getD}
 use lib.Dec.{eqb}
 use Rattle.lists.specs.Count.{tally, Below}
 
--- the limits of document 01: V ≤ 20,000 vertices and F ≤ 32,768 faces
+-- the limits of document 01: V ≤ 20,000 vertices, F ≤ 32,768 faces and S ≤ 65,536 stations
 abbrev pub maxVertices : ℕ
 maxVertices = 20000
 
 abbrev pub maxFaces : ℕ
 maxFaces = 32768
+
+abbrev pub maxStations : ℕ
+maxStations = 65536
 
 -- the corner after corner u of the same face
 abbrev pub next : ℕ → ℕ

@@ -8,6 +8,8 @@ pub const MAX_VERTICES: usize = 20000;
 
 pub const MAX_FACES: usize = 32768;
 
+pub const MAX_STATIONS: usize = 65536;
+
 // The vertex that edge use u leaves.
 pub fn start(faces: &[u32], u: u32) -> u32
     requires { ⌜ IsUse (now faces) u ⌝ }

@@ -15,7 +15,7 @@ ghost use Rattle.mesh.specs.Surface.{Body, faceCount};
 ghost use Rattle.polyhedron_tetrahedra.specs.Tetrahedra.{points, mappedRule, overFace, duffyAxis, duffy, lineWeight, tetrahedronPoint, tetrahedronLine, tetrahedronField, addTetrahedron, tetrahedra};
 
 // How many points the rule has on each axis.
-const POINTS: usize = 6;
+pub const POINTS: usize = 6;
 
 // A rule on (0, 1).
 pub struct MappedRule {
@@ -32,7 +32,7 @@ pub struct Tetrahedron {
 }
 
 // The 6-point rule, mapped from (−1, 1).
-fn mapped_rule() -> MappedRule
+pub fn mapped_rule() -> MappedRule
     ensures { λ r. ⌜ r ≡ mappedRule ⌝ }
 {
     let rule = legendre::gauss_legendre(6);
@@ -58,7 +58,7 @@ fn mapped_rule() -> MappedRule
 }
 
 // The tetrahedron from the apex a to the face with the corners b, c and d.
-fn over_face(a: Vector, b: Vector, c: Vector, d: Vector) -> Tetrahedron
+pub fn over_face(a: Vector, b: Vector, c: Vector, d: Vector) -> Tetrahedron
     ensures { λ r. ⌜ r ≡ overFace a b c d ⌝ }
 {
     let ab = difference(b, a);
@@ -75,7 +75,7 @@ fn duffy_axis(a: f64, ab: f64, bc: f64, cd: f64, u: f64, v: f64, t: f64) -> f64
 }
 
 // The point of the tetrahedron s at u, v and t.
-fn duffy(a: Vector, s: Tetrahedron, u: f64, v: f64, t: f64) -> Vector
+pub fn duffy(a: Vector, s: Tetrahedron, u: f64, v: f64, t: f64) -> Vector
     ensures { λ r. ⌜ r ≡ duffy a s u v t ⌝ }
 {
     Vector {
@@ -86,7 +86,7 @@ fn duffy(a: Vector, s: Tetrahedron, u: f64, v: f64, t: f64) -> Vector
 }
 
 // The weight that the points of a line have in common.
-fn line_weight(vol6: f64, u: f64, v: f64, wu: f64, wv: f64) -> f64
+pub fn line_weight(vol6: f64, u: f64, v: f64, wu: f64, wv: f64) -> f64
     ensures { λ r. ⌜ r ≡ lineWeight vol6 u v wu wv ⌝ }
 {
     vol6 * u * u * v * wu * wv

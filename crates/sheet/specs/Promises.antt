@@ -17,12 +17,12 @@ use Rattle.refusals.specs.declared.Cause.the-variants.{None}
 use Rattle.newtonian.specs.Vectors.{vectorNumbers}
 use Rattle.newtonian.specs.declared.Vector.{Vector}
 use Rattle.lists.specs.Count.{Below}
-use Rattle.mesh_orders.specs.Edges.{maxVertices, maxFaces, occurrences}
+use Rattle.mesh_orders.specs.Edges.{maxVertices, maxFaces, maxStations, occurrences}
 use Rattle.mesh.specs.Surface as surface
 use Rattle.mesh.specs.Accepted.{Closed}
 use Rattle.prism.specs.Prism.{minSide}
 use Rattle.sheet_layout.specs.LittleEndian.{pack, bits}
-use Rattle.sheet_rows.specs.Kinds.{isMesh, isPrism, maxStations}
+use Rattle.sheet_rows.specs.Kinds.{isMesh, isPrism}
 use Rattle.sheet_rows.specs.Row.{rowNumbers}
 use Rattle.sheet_rows.specs.declared.Row.{Row}
 use Rattle.sheet.specs.Input.{SheetInput, vertexCount, faceCount, stationCount, rowAt}

@@ -26,7 +26,7 @@ use Rattle.newtonian.specs.Vectors.{vectorNumbers}
 use Rattle.newtonian.specs.declared.Vector.{Vector}
 use Rattle.newtonian.specs.declared.Newtonian.{Newtonian}
 use Rattle.newtonian.specs.Fold.{Fold}
-use Rattle.mesh_orders.specs.Edges.{Faces}
+use Rattle.mesh_orders.specs.Edges.{maxStations, Faces}
 use Rattle.mesh_orders.specs.Order.{orderList}
 use Rattle.mesh_orders.specs.OrderLaws as order
 use Rattle.mesh_orders.specs.Mates.{mates}
@@ -42,7 +42,7 @@ use Rattle.sheet_layout.specs.Parts.{Part, Run, joined, layout, size, split, Ea
 use Rattle.sheet_layout.proofs.Bits.{bits-lt, doubles-bits}
 use Rattle.sheet_layout.proofs.Lists.{unpack-at, pack-unpack}
 use Rattle.sheet_layout.proofs.Files.{joined-length, joined-are, split-joined}
-use Rattle.sheet_rows.specs.Kinds.{isMesh, isPrism, rowWidth, maxStations}
+use Rattle.sheet_rows.specs.Kinds.{isMesh, isPrism, rowWidth}
 use Rattle.sheet_rows.proofs.KindLaws.{prism-no-mesh, rows-few, row-width}
 use Rattle.sheet_rows.specs.Row.{inRow, fieldAt, rowFrom, rowNumbers}
 use Rattle.sheet_rows.specs.Row as row

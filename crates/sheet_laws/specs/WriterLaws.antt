@@ -22,7 +22,7 @@ use Rattle.refusals.proofs.Causes.{from-both, holds, passes, each, from-each}
 use Rattle.refusals.proofs.Causes as causes
 use Rattle.lists.specs.Count.{Below}
 use Rattle.lists.proofs.Numbers.{both, true≢false}
-use Rattle.mesh_orders.specs.Edges.{maxVertices, maxFaces, occurrences}
+use Rattle.mesh_orders.specs.Edges.{maxVertices, maxFaces, maxStations, occurrences}
 use Rattle.newtonian.specs.declared.Vector.{Vector}
 use Rattle.newtonian.specs.Vectors.{vectorWithinLimits}
 use Rattle.mesh.specs.Surface.{Body, vertex, normal, isZero}
@@ -33,7 +33,7 @@ use Rattle.mesh.specs.CauseLaws.{is-body, none-limits, limits-none, none-vertex
 use Rattle.mesh_laws.specs.ClosedLaws.{closed-pairs, pairs-closed}
 use Rattle.mesh_laws.specs.Laws.{checked, checks}
 use Rattle.prism.specs.Prism.{sidesWithinLimits, sideWithinLimits}
-use Rattle.sheet_rows.specs.Kinds.{isMesh, isPrism, maxStations, knownKind, withinCounts}
+use Rattle.sheet_rows.specs.Kinds.{isMesh, isPrism, knownKind, withinCounts}
 use Rattle.sheet_rows.proofs.Counts.{counts-each}
 use Rattle.sheet_rows.proofs.KindLaws.{prism-no-mesh}
 use Rattle.sheet_rows.specs.Row.{allFinite, isFiniteRow, rowNumbers, rowCause}

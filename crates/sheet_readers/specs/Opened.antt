@@ -4,9 +4,9 @@ use mathlib.Core.Bool.{true}
 use mathlib.Core.List.{List}
 use Prim.Native.Nat.{ℕ, _+_, _≤_}
 use lib.ListN.{length}
-use Rattle.mesh_orders.specs.Edges.{maxVertices, maxFaces}
+use Rattle.mesh_orders.specs.Edges.{maxVertices, maxFaces, maxStations}
 use Rattle.sheet.specs.Bytes.{trailerLength}
-use Rattle.sheet_rows.specs.Kinds.{maxStations, knownKind}
+use Rattle.sheet_rows.specs.Kinds.{knownKind}
 use Rattle.sheet.specs.Checker.{kindIn, verticesIn, facesIn, stationsIn, pointerFor}
 
 pub record Opened (b : List ℕ) : Type 0 where

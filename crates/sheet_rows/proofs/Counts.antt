@@ -5,8 +5,8 @@ use Prim.Native.Nat.{ℕ, _≤_}
 use lib.Dec.{leb}
 use borrow.Author.Tests.{leb-true}
 use Rattle.lists.proofs.Numbers.{both}
-use Rattle.mesh_orders.specs.Edges.{maxVertices, maxFaces}
-use Rattle.sheet_rows.specs.Kinds.{maxStations, withinCounts}
+use Rattle.mesh_orders.specs.Edges.{maxVertices, maxFaces, maxStations}
+use Rattle.sheet_rows.specs.Kinds.{withinCounts}
 
 pub counts-each : (v f s : ℕ) → withinCounts v f s ≡ true → (v ≤ maxVertices) × (f ≤ maxFaces) × (s ≤ maxStations)
 unfolding withinCounts

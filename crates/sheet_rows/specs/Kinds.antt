@@ -3,7 +3,7 @@ use mathlib.Core.Bool.{Bool, _&&_, _||_}
 use Prim.Native.Nat.{ℕ}
 use lib.Dec.{eqb, leb}
 use lib.Ieee.{Float}
-use Rattle.mesh_orders.specs.Edges.{maxVertices, maxFaces}
+use Rattle.mesh_orders.specs.Edges.{maxVertices, maxFaces, maxStations}
 use Rattle.prism_pieces.specs.declared.AxisRule.{AxisRule}
 use Rattle.prism_pieces.specs.declared.AxisRule.the-variants.{LastOfEquals}
 use Rattle.anomaly.specs.Body.{μ₀/4π}
@@ -46,10 +46,6 @@ unfoldable pub magneticConstant : ℕ → Float
 magneticConstant kind = μ₀/4π
 
 -- ---- the counts
-
--- document 01: S ≤ 65,536
-abbrev pub maxStations : ℕ
-maxStations = 65536
 
 -- v vertices, f faces and s stations
 unfoldable pub withinCounts : ℕ → ℕ → ℕ → Bool

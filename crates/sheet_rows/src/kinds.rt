@@ -3,14 +3,13 @@ ghost use mathlib.Core.Path.{_≡_};
 ghost use Prim.Native.Nat.{_*_};
 ghost use Rattle.sheet_rows.specs.Kinds.{isMesh, isPrism, knownKind, rowWidth, axisRule, magneticConstant, withinCounts};
 use mesh_orders::edges::MAX_FACES;
+use mesh_orders::edges::MAX_STATIONS;
 use mesh_orders::edges::MAX_VERTICES;
 use prism_pieces::AxisRule;
 
 const MESH_KIND: u32 = 1;
 
 const PRISM_KIND: u32 = 2;
-
-const MAX_STATIONS: usize = 65536;
 
 // The numbers of a row, and their bytes.
 pub const PLAIN_WIDTH: usize = 8;

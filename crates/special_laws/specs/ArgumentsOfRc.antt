@@ -1,5 +1,6 @@
 -- Each R_C that ln, atan and atan2 call has its arguments from 1/4 to 4. States: `in-ln`, `in-atan` and `in-atan-beyond`: so it takes at most six rounds
--- (`WithinSix`); and before them `places-low` and `places-high`: the t of ln lies from 3/4 up and below 3/2. Assumes nothing.
+-- (`WithinSix`); and before them `places-low` and `places-high`: the t of ln lies from 3/4 up and below 3/2; `y-within` and `reciprocal`: the y of atan lies from 1/4
+-- to 4, and 1/z up to 1 where z is beyond it. Assumes nothing.
 use mathlib.Core.Path.{_≡_, ap, _∙_}
 use Prim.Native.Nat.{ℕ, suc, _-_, _*_, _^_, _≤_, _<_}
 use native.Mathlib.Nat.{lt-of-not-le, not-le-of-lt, le-of-lt, lt-of-lt-of-le, mul-le-mul-right, le-of-mul-le-mul-right, pow-suc}
@@ -107,7 +108,7 @@ magnitude z h =
     let p : T (finiteUnsigned (abs z)) = abs-finite z 1·0 tt h in
     record { lo-ok = tt; hi-ok = tt; ok = p; low = +0-le (abs z) p; high = h }
 
-y-within : (z : Float) → T (le (abs z) 1·0) → Between 1/4 four (1·0 ⊕ z ⊗ z)
+pub y-within : (z : Float) → T (le (abs z) 1·0) → Between 1/4 four (1·0 ⊕ z ⊗ z)
 unfolding ofBits add mul le
 y-within z h =
     let w = magnitude z h in
@@ -118,7 +119,7 @@ pub in-atan : (z : Float) → T (le (abs z) 1·0) → WithinSix 1·0 (1·0 ⊕ z
 in-atan z h = within-six 1·0 (1·0 ⊕ z ⊗ z) 1-within (y-within z h)
 
 -- beyond 1, |1/z| ≤ 1
-reciprocal : (z : Float) → T (not (isNan z)) → T (not (le (abs z) 1·0)) → T (le (abs (1·0 ⊘ z)) 1·0)
+pub reciprocal : (z : Float) → T (not (isNan z)) → T (not (le (abs z) 1·0)) → T (le (abs (1·0 ⊘ z)) 1·0)
 unfolding ofBits div abs le isNan
 reciprocal nan n h = absurd n
 reciprocal (inf s) n h = tt

@@ -15,7 +15,7 @@ use Rattle.refusals.specs.declared.Refusal.the-variants.{Malformed, TooMany, To
 use Rattle.refusals.specs.declared.Cause.{Cause}
 use Rattle.refusals.specs.declared.Cause.the-variants.{None, Refused}
 use Rattle.refusals.proofs.Causes.{both}
-use Rattle.mesh_orders.specs.Edges.{maxVertices, maxFaces}
+use Rattle.mesh_orders.specs.Edges.{maxVertices, maxFaces, maxStations}
 use Rattle.mesh_orders.specs.Order.{orderList}
 use Rattle.mesh_orders.specs.OrderLaws.{order-length}
 use Rattle.newtonian.specs.Vectors.{vectorWithinLimits}
@@ -26,7 +26,7 @@ use Rattle.mesh.specs.Accepted.{Counted}
 use Rattle.mesh_laws.specs.Laws.{solid-volume, solid-refused}
 use Rattle.mesh.specs.declared.Solid.{Solid}
 use Rattle.prism.specs.Prism.{sidesWithinLimits}
-use Rattle.sheet_rows.specs.Kinds.{isMesh, maxStations, withinCounts}
+use Rattle.sheet_rows.specs.Kinds.{isMesh, withinCounts}
 use Rattle.sheet.specs.Input.{SheetInput, vertexCount, faceCount, stationCount}
 use Rattle.sheet.specs.Bytes.{volume, sheetLength, sheetBytes}
 use Rattle.sheet.specs.Writer.{malformed, tooMany, tooShort, outOfLimits, noSuchVertex, tooThin, bodyCause, stationCause, writerCause, zeroesOut, outAfter}

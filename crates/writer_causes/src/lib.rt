@@ -2,9 +2,8 @@
 ghost use mathlib.Core.Path.{_≡_};
 ghost use mathlib.Core.List.{List};
 ghost use Prim.Native.Nat.{ℕ, _+_, _≤_};
-ghost use Rattle.mesh_orders.specs.Edges.{maxVertices, maxFaces};
+ghost use Rattle.mesh_orders.specs.Edges.{maxVertices, maxFaces, maxStations};
 ghost use Rattle.sheet.specs.Bytes.{trailerLength, pointerOf};
-ghost use Rattle.sheet_rows.specs.Kinds.{maxStations};
 ghost use Rattle.sheet.specs.Writer.{outOfLimits};
 ghost use Rattle.sheet.specs.Input.{SheetInput, inputOf};
 ghost use Rattle.writer_causes.specs.LengthsCause.{wellFormed, Lengths, lengthsCause};

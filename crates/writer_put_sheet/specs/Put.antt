@@ -8,10 +8,10 @@ use lib.ListN.{length, replicate}
 use Rattle.refusals.specs.Causes.{firstOf}
 use Rattle.refusals.specs.declared.Cause.{Cause}
 use Rattle.refusals.specs.declared.Cause.the-variants.{None, Refused}
-use Rattle.mesh_orders.specs.Edges.{maxVertices, Faces}
+use Rattle.mesh_orders.specs.Edges.{maxVertices, maxStations, Faces}
 use Rattle.mesh_orders.specs.Order.{orderList}
 use Rattle.mesh.specs.Surface.{Body}
-use Rattle.sheet_rows.specs.Kinds.{isMesh, maxStations}
+use Rattle.sheet_rows.specs.Kinds.{isMesh}
 use Rattle.sheet.specs.Input.{SheetInput, vertexCount, stationCount}
 use Rattle.sheet.specs.Bytes.{volume, sheetLength, sheetBytes}
 use Rattle.sheet.specs.Writer.{stationCause}

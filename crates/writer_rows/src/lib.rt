@@ -1,7 +1,8 @@
 // Writes the rows of a sheet.
 ghost use Prim.Native.Nat.{_+_, _*_, _/_, _≤_, _<_};
 ghost use lib.ListN.{length};
-ghost use Rattle.sheet_rows.specs.Kinds.{rowWidth, maxStations};
+ghost use Rattle.mesh_orders.specs.Edges.{maxStations};
+ghost use Rattle.sheet_rows.specs.Kinds.{rowWidth};
 ghost use Rattle.sheet_rows.specs.BodyWithCenter.{BodyWithCenter};
 ghost use Rattle.sheet.specs.Input.{inputOf};
 ghost use Rattle.writer_rows.specs.Rows.{RowPut, RowsPut};

@@ -1,0 +1,2 @@
+-- Several numbers side by side.
+pub mod Lanes

@@ -1,0 +1,2 @@
+-- Laws of atan2 by lanes.
+mod AtanLaw

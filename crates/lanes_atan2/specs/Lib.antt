@@ -1,0 +1,2 @@
+-- atan2 of several numbers side by side.
+pub mod AtanLanes

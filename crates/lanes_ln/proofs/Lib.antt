@@ -1,0 +1,4 @@
+-- Laws of ln by lanes.
+mod Whole
+mod SplitPattern
+mod LnLaw

@@ -1,0 +1,2 @@
+-- ln of several numbers side by side.
+pub mod LnLanes

@@ -1,0 +1,2 @@
+-- R_C of several numbers side by side.
+pub mod LaneRounds

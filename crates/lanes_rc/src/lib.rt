@@ -1,0 +1,19 @@
+// Carlson's R_C of several numbers side by side: what one lane asks for. The crates lanes_rc_8 and lanes_rc_24 have the loops over lanes.
+ghost use mathlib.Core.Path.{_≡_};
+ghost use Rattle.carlson.specs.Rc.{seriesC};
+
+// (3ε)^(-1/8)
+pub const RC_FACTOR: f64 = f64::from_bits(0x4053_b957_8eb0_bf54);
+
+// The series that ends R_C.
+pub fn series_c(s: f64) -> f64
+    ensures { λ r. ⌜ r ≡ seriesC s ⌝ }
+{
+    1.0
+        + s
+            * s
+            * (3.0 / 10.0
+                + s
+                    * (1.0 / 7.0
+                        + s * (3.0 / 8.0 + s * (9.0 / 22.0 + s * (159.0 / 208.0 + s * 9.0 / 8.0)))))
+}

@@ -1,0 +1,2 @@
+-- Laws of eight faces that are added to the field.
+mod Adding

@@ -1,0 +1,2 @@
+-- Laws of the sums of far stations, for the crates above.
+pub mod Stations

@@ -1,0 +1,2 @@
+-- The far fields of a block of eight stations.
+pub mod Far

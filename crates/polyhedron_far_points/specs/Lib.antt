@@ -1,0 +1,2 @@
+-- The points of a tetrahedron, one after the other.
+pub mod Tetrahedral

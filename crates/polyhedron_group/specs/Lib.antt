@@ -1,0 +1,2 @@
+-- Eight faces of a mesh.
+pub mod Group

@@ -1,0 +1,2 @@
+-- Laws of groups of faces.
+mod ClearGroups

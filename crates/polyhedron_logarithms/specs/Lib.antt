@@ -1,0 +1,2 @@
+-- The logarithms of the sides of eight faces.
+pub mod Sides

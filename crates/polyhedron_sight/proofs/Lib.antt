@@ -1,0 +1,3 @@
+-- Laws of what a station sees of eight faces.
+mod Terms
+mod Seeing

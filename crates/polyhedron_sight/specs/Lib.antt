@@ -1,0 +1,2 @@
+-- What a station sees of eight faces side by side.
+pub mod Sight

@@ -1,0 +1,2 @@
+-- Laws of the walk.
+mod Sized

@@ -1,0 +1,2 @@
+-- Laws of records that are stored, for the crates above.
+pub mod Storing
