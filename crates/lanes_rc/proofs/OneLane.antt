@@ -15,14 +15,13 @@ use Rattle.carlson.specs.declared.RoundC.{RoundC}
 use Rattle.lanes.specs.Lanes.{lane}
 use Rattle.lanes_rc.specs.LaneRounds.{roundIf, afterAll, ending, rcNumber}
 
--- what a round reads of a lane whose state is d
-pub record Reads (q : Float) (d : RoundC) (t : Bool) (x y a f rx ry : Float) : Type 0 where
+-- what a round reads of a lane whose state is d, and its λ
+pub record Reads (q : Float) (d : RoundC) (t : Bool) (x y a f l : Float) : Type 0 where
   pub x-is : x ≡ d .x
   pub y-is : y ≡ d .y
   pub a-is : a ≡ d .a
   pub f-is : f ≡ d .f
-  pub rx-is : rx ≡ Root (d .x)
-  pub ry-is : ry ≡ Root (d .y)
+  pub l-is : l ≡ cond t (2·0 ⊗ Root x ⊗ Root y ⊕ y) y
   pub t-is : t ≡ loopTest q a f
 
 -- a part of the picked state is the picked part
@@ -30,25 +29,37 @@ part : (b : Bool) (p : RoundC → Float) (d e : RoundC) → cond b (p d) (p e) �
 part true p d e = refl
 part false p d e = refl
 
-module _ {q : Float} {d : RoundC} {t : Bool} {x y a f rx ry : Float} (s : Reads q d t x y a f rx ry) where
+-- of two choices by one test the inner one is decided
+under : (b : Bool) (g : Float → Float) (u v z : Float) → cond b (g (cond b u v)) z ≡ cond b (g u) z
+under true g u v z = refl
+under false g u v z = refl
+
+module _ {q : Float} {d : RoundC} {t : Bool} {x y a f l : Float} (s : Reads q d t x y a f l) where
   tests : t ≡ testC q d
   tests = s .t-is ∙ ap₂ (loopTest q) (s .a-is) (s .f-is)
 
-  sums : (w z : Float) → w ≡ z → (w ⊕ (2·0 ⊗ rx ⊗ ry ⊕ y)) ⊘ 4·0 ≡ quarter (z ⊕ λC d)
+  abbrev λ-of : Float
+  λ-of = 2·0 ⊗ Root x ⊗ Root y ⊕ y
+
+  sums : (w z : Float) → w ≡ z → (w ⊕ λ-of) ⊘ 4·0 ≡ quarter (z ⊕ λC d)
   unfolding quarter
-  sums w z e = rw (e, s .rx-is, s .ry-is, s .y-is)
+  sums w z e = rw (e, s .x-is, s .y-is)
 
-  pub round-x : {v : Float} → v ≡ cond t ((x ⊕ (2·0 ⊗ rx ⊗ ry ⊕ y)) ⊘ 4·0) x → v ≡ roundIf q d .x
-  unfolding roundIf duplicateC
-  round-x e = e ∙ rw (sums x (d .x) (s .x-is), s .x-is, tests) (part (testC q d) (λ r. r .x) (duplicateC d) d)
+  -- where a round is made, its λ is the definition's
+  made : (w : Float) → cond t ((w ⊕ l) ⊘ 4·0) w ≡ cond t ((w ⊕ λ-of) ⊘ 4·0) w
+  made w = ap (λ (u : Float). cond t ((w ⊕ u) ⊘ 4·0) w) (s .l-is) ∙ under t (λ u. (w ⊕ u) ⊘ 4·0) λ-of y w
 
-  pub round-y : {v : Float} → v ≡ cond t ((y ⊕ (2·0 ⊗ rx ⊗ ry ⊕ y)) ⊘ 4·0) y → v ≡ roundIf q d .y
+  pub round-x : {v : Float} → v ≡ cond t ((x ⊕ l) ⊘ 4·0) x → v ≡ roundIf q d .x
   unfolding roundIf duplicateC
-  round-y e = e ∙ rw (sums y (d .y) (s .y-is), s .y-is, tests) (part (testC q d) (λ r. r .y) (duplicateC d) d)
+  round-x e = e ∙ made x ∙ rw (sums x (d .x) (s .x-is), s .x-is, tests) (part (testC q d) (λ r. r .x) (duplicateC d) d)
 
-  pub round-a : {v : Float} → v ≡ cond t ((a ⊕ (2·0 ⊗ rx ⊗ ry ⊕ y)) ⊘ 4·0) a → v ≡ roundIf q d .a
+  pub round-y : {v : Float} → v ≡ cond t ((y ⊕ l) ⊘ 4·0) y → v ≡ roundIf q d .y
   unfolding roundIf duplicateC
-  round-a e = e ∙ rw (sums a (d .a) (s .a-is), s .a-is, tests) (part (testC q d) (λ r. r .a) (duplicateC d) d)
+  round-y e = e ∙ made y ∙ rw (sums y (d .y) (s .y-is), s .y-is, tests) (part (testC q d) (λ r. r .y) (duplicateC d) d)
+
+  pub round-a : {v : Float} → v ≡ cond t ((a ⊕ l) ⊘ 4·0) a → v ≡ roundIf q d .a
+  unfolding roundIf duplicateC
+  round-a e = e ∙ made a ∙ rw (sums a (d .a) (s .a-is), s .a-is, tests) (part (testC q d) (λ r. r .a) (duplicateC d) d)
 
   pub round-f : {v : Float} → v ≡ cond t (f ⊘ 4·0) f → v ≡ roundIf q d .f
   unfolding roundIf duplicateC quarter

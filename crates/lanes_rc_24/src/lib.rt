@@ -11,6 +11,7 @@ use carlson::loop_test;
 use lanes::pick;
 use lanes::roots_24;
 use lanes_rc::RC_FACTOR;
+use lanes_rc::lambda_if;
 use lanes_rc::series_c;
 
 // Whether the loop's test holds in some lane. A no says that it fails in all; a wrong yes would cost a round that changes nothing.
@@ -30,17 +31,13 @@ fn round(q: &[f64; 24], x: &mut [f64; 24], y: &mut [f64; 24], a: &mut [f64; 24],
     ensures { λ _. ⌜ States 24 (afterOne (now (q .entry)) (now (x .entry)) (now (y .entry)) (now (a .entry)) (now (f .entry)))
         (now (x .exit)) (now (y .exit)) (now (a .exit)) (now (f .exit)) ⌝ }
 {
-    let mut rx = [0.0; 24];
-    let mut ry = [0.0; 24];
-    roots_24(x, &mut rx);
-    roots_24(y, &mut ry);
     for k in 0..24usize {
         let xk = x[k];
         let yk = y[k];
         let ak = a[k];
         let fk = f[k];
         let t = loop_test(q[k], ak, fk);
-        let lambda = 2.0 * rx[k] * ry[k] + yk;
+        let lambda = lambda_if(t, xk, yk);
         x[k] = pick(t, (xk + lambda) / 4.0, xk);
         y[k] = pick(t, (yk + lambda) / 4.0, yk);
         a[k] = pick(t, (ak + lambda) / 4.0, ak);

@@ -10,45 +10,36 @@ use Rattle.lanes_rc_8.proofs.round.Statement.{statement}
 use Rattle.lanes_rc_8.proofs.round.Tie as tie
 
 abbrev Inv-loop : tie.InvT-loop
-Inv-loop q x₀ y₀ a₀ f₀ rx ry k₀ x y a f k =
+Inv-loop q x₀ y₀ a₀ f₀ k₀ x y a f k =
     (Filled 8 (λ (j : ℕ). afterOne q x₀ y₀ a₀ f₀ j .x) x₀ k x) × (Filled 8 (λ (j : ℕ). afterOne q x₀ y₀ a₀ f₀ j .y) y₀ k y)
     × (Filled 8 (λ (j : ℕ). afterOne q x₀ y₀ a₀ f₀ j .a) a₀ k a) × (Filled 8 (λ (j : ℕ). afterOne q x₀ y₀ a₀ f₀ j .f) f₀ k f)
 
 abbrev μ-loop : tie.MeasureT-loop
-μ-loop q x₀ y₀ a₀ f₀ rx ry k₀ x y a f k = 8 - k
-
--- after the first roots
-abbrev roots : tie.After-roots-82 Inv-loop μ-loop → tie.After-roots-8 Inv-loop μ-loop
-roots c = c .before .before .before
-
--- where the call begins
-abbrev entry : tie.After-roots-82 Inv-loop μ-loop → tie.Start Inv-loop μ-loop
-entry c = roots c .before .before .before
+μ-loop q x₀ y₀ a₀ f₀ k₀ x y a f k = 8 - k
 
 -- in the loop, past its test
 abbrev in-loop : tie.After-loop-test2 Inv-loop μ-loop → tie.In-loop Inv-loop μ-loop
 in-loop c = c .before .before .before .before .before .before
 
 loop-holds : tie.Need-loop-holds Inv-loop μ-loop
-loop-holds c = let p = entry c .pre in (none-filled (p .0), none-filled (p .1), none-filled (p .2), none-filled (p .3))
+loop-holds c = let p = c .pre in (none-filled (p .0), none-filled (p .1), none-filled (p .2), none-filled (p .3))
 
 loop-again : tie.Need-loop-again Inv-loop μ-loop
 loop-again c =
     let p = c .before .before .before in
-    let t = p .before in
+    let u = p .before in
+    let t = u .before in
     let b = in-loop t in
     let k = b .before .loop .k in
     let i = b .before .loop .inv in
     let l : k < 8 = b .loop-test .taken in
-    let r = b .before .before in
-    let g = entry r .args in
-    let w : Reads _ (start (g .x .now) (g .y .now) (g .a .now) (g .f .now) k) _ _ _ _ _ _ _ = record {
+    let g = b .before .before .args in
+    let w : Reads _ (start (g .x .now) (g .y .now) (g .a .now) (g .f .now) k) _ _ _ _ _ _ = record {
       x-is = i .0 .rest k (le-refl k);
       y-is = i .1 .rest k (le-refl k);
       a-is = i .2 .rest k (le-refl k);
       f-is = i .3 .rest k (le-refl k);
-      rx-is = roots r .roots-8 .ensures .at k l;
-      ry-is = r .roots-82 .ensures .at k l;
+      l-is = u .lambda-if .ensures;
       t-is = t .loop-test2 .ensures;
     } in (
       one-filled (i .0) l (round-x w (p .pick .ensures)),
@@ -68,8 +59,6 @@ round-spec =
     (tie.spec
     Inv-loop
     μ-loop
-    (λ c κs. search needs)
-    (λ c κs. search needs)
     loop-holds
     (λ c. search needs)
     (λ c. search needs)
@@ -82,10 +71,7 @@ round-spec =
     (λ c. search needs)
     (λ c. search needs)
     (λ c κs. search needs)
-    (λ c. search needs)
-    (λ c. search needs)
-    (λ c. search needs)
-    (λ c. search needs)
+    (λ c κs. search needs)
     (λ c κs. search needs)
     (λ c. search needs)
     (λ c. search needs)

@@ -1,2 +1,0 @@
--- Fields at eight stations side by side.
-pub mod EightFields
