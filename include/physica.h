@@ -15,7 +15,7 @@
       9  a prism's side, max - min, below 1e-6
      10  the field would take a 33rd bisection                      values[0]: the station
      11  a 65th edge through the station                            values[0]: the station
-     12  work has under 3F entries, or out fewer bytes than the sheet
+     12  work has under 3F entries, fields under 13S numbers, or out fewer bytes than the sheet
      13  the computed row of a station is not finite                values[0]: the station
      14  outside the call's domain, given at the call
      15  Carlson's loop has not ended after 64 rounds
@@ -29,16 +29,16 @@
    a single station names it 0.
 
    Buffers. A parameter such as out[13] must point to at least that many numbers; `values` to two. Lists come with their length, counted in
-   elements (not bytes, points or faces). A null pointer is allowed nowhere, not even with length 0. Buffers that a call writes (work, out, nodes,
-   weights, size, found, values) must not overlap any other buffer of the call. Alignment is that of the element's type.
-   Under a refusal everything is left as it was, but for `values`, for `work` where a call says so and for write_sheet's out.
+   elements (not bytes, points or faces). A null pointer is allowed nowhere, not even with length 0. Buffers that a call writes (work, out, fields,
+   nodes, weights, size, found, values) must not overlap any other buffer of the call. Alignment is that of the element's type.
+   Under a refusal everything is left as it was, but for `values`, for `work` where a call says so, for profile's fields and for write_sheet's out.
    `values` is written at every call that has it: the refusal's values, zeros after them, zeros after an answer.
 
-   Numbers in are any doubles. A field at a single station may hold infinities or NaNs (at an edge, say); that is an answer and no refusal. Which of
+   Numbers in are any doubles. A field may hold infinities or NaNs (at an edge, say); that is an answer and no refusal. Which of
    its bit patterns a NaN has is not promised; all else is, bit for bit, by the definitions in crates/NAME/specs.
 
-   The calls keep nothing between them and may run in several threads. check_sheet takes up to 1.5 MB of stack, write_sheet 1 MB, polyhedron and
-   check_mesh 0.5 MB. Rounding must be to nearest, with subnormal numbers, as a C program starts.
+   The calls keep nothing between them and may run in several threads. check_sheet takes up to 1.5 MB of stack, write_sheet 1 MB, profile 0.6 MB,
+   polyhedron and check_mesh 0.5 MB. Rounding must be to nearest, with subnormal numbers, as a C program starts.
 */
 #ifndef PHYSICA_H
 #define PHYSICA_H
@@ -94,6 +94,20 @@ uint32_t physica_check_mesh(const double *verts, size_t verts_len, const uint32_
 /* The field of a mesh at a station; the mesh is checked first. Refusals: 1, 2, 12, 3, 4, 5, 6, 7, 8, 11. */
 uint32_t physica_polyhedron(const double station[3], const double *verts, size_t verts_len, const uint32_t *faces, size_t faces_len, uint32_t *work,
                             size_t work_len, double out[13], uint32_t values[2]);
+
+/* The fields of a mesh at S stations, three coordinates to each; the mesh is checked once. fields, at least 13S numbers, is filled from the front with
+   a record for each station, the thirteen numbers that polyhedron gives there. Refusals: 1, 2, 12, 3, 4, 5, 6, 7, 8, then 11 for the first station
+   that polyhedron refuses.
+
+      after                work                          fields
+      an answer            order list, rest as it was    13S numbers, rest as they were
+      1, 2, 12, 3, 4       as it was                     as they were
+      5, 6, 7, 8           order list, rest as it was    as they were
+      11 at station i      order list, rest as it was    13i numbers, the records before i; rest as they were
+
+   3 is given for any station, also for one after a station that 11 would refuse. S = 0 is no refusal. */
+uint32_t physica_profile(const double *stations, size_t stations_len, const double *verts, size_t verts_len, const uint32_t *faces, size_t faces_len,
+                         uint32_t *work, size_t work_len, double *fields, size_t fields_len, uint32_t values[2]);
 
 /* ---- magnetic fields ----
    Magnetisation and field strength in A/m, fields in T. */

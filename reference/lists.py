@@ -511,6 +511,93 @@ def polyhedra(reference):
     assert met == {0, 1, 3, 4, 5, 6, 7, 8, 11, 12}
 
 
+# ---- profiles: bodies, each with a table of stations, and profiles of stations from the table
+
+# how many places of stations the line of a profile has
+PLACES = 17
+
+
+def station_answers(reference, v, f, table):
+    """Of each station of the table the field's thirteen words, or the number of its refusal."""
+    asked = ["polyhedron %s %s" % (hexes(p), body_text(v, f)) for p in table]
+    for line in subprocess.run([reference], input="\n".join(asked) + "\n", capture_output=True, text=True, check=True).stdout.splitlines():
+        kind, *words = line.split()
+        yield int(words[0]) if kind == "refused" else [0x7FF8000000000000 if w == "nan" else int(w, 16) for w in words]
+
+
+def profile_lines(reference, v, f, table, asked):
+    """The lines of one body. `asked` are profiles: the places of their stations in the table, and by how much the list of stations, work and fields are longer than they must be. The
+    causes come in document 01's order; the reference build gives those of the mesh, then those of each station."""
+    mesh_number, values, order = next(mesh_answers(reference, "check_mesh", [([], v, f, len(f))]))
+    answers = [mesh_number] * len(table) if mesh_number else list(station_answers(reference, v, f, table))
+    body = [bits(float(x)) for x in v] + list(f) + order
+    for p, answer in zip(table, answers):
+        body += [bits(float(x)) for x in p] + (answer if isinstance(answer, list) else [0] * 13)
+    yield [len(v), len(f), len(body), len(asked)]
+    yield body
+    for places, s_more, w_more, o_more in asked:
+        asked_answers = [answers[k] for k in places]
+        number, at = mesh_number, values if mesh_number else []
+        if mesh_number == 1 or s_more % 3:
+            number, at = 1, []
+        elif w_more < 0 or o_more < 0:
+            number, at = 12, []
+        elif mesh_number == 3 or any(not abs(x) <= 1e9 for k in places for x in table[k]):
+            number, at = 3, []
+        elif mesh_number == 0 and 11 in asked_answers:
+            number, at = 11, [asked_answers.index(11)]
+        filled = {0: len(places), 11: (at + [0])[0]}.get(number, 0)
+        sorted_uses = int(number in (0, 5, 6, 7, 8, 11))
+        lengths = [3 * len(places) + s_more, len(f) + w_more, 13 * len(places) + o_more]
+        yield lengths + [number] + (at + [0, 0])[:2] + [filled, sorted_uses] + (places + [0] * PLACES)[:PLACES]
+
+
+def profiles(reference):
+    """For each body a line with the lengths of its vertex list, its face list and its second line, and how many profiles it has; a line with the two lists, the order list and a table
+    of stations, each with its thirteen numbers; and a line for each profile: the lengths of stations, work and fields; the refusal's number, 0 for none, and its two values; how many
+    records are filled, and whether work is the order list; the places of its stations in the table."""
+    r = random.Random(2019)
+    hand_over(reference)
+    met = set()
+
+    def add(body, table, asked):
+        asked = [(list(places), *more, *[0] * (3 - len(more))) for places, *more in asked]
+        for k, line in enumerate(profile_lines(reference, flat(body[0]), flat(body[1]), table, asked)):
+            if k > 1:
+                met.add(("refused", line[3]))
+                met.add(("stations", line[0] / 3))
+            yield ["%016x" % w for w in line]
+
+    def some(places, s):
+        return [r.choice(places) for _ in range(s)]
+
+    # T from both sides of the hand-over: every mixture of a block, then other lengths
+    mixtures = [[k >> i & 1 for i in range(8)] for k in range(256)]
+    yield from add(TETRAHEDRON, [(x, 0.25, 0.25) for x in (4.0, 5.0)], [(m,) for m in mixtures + [some((0, 1), s) for s in (0, 1, 1, 7, 7, 9, 9, 16, 17, 17)]])
+    # closed bodies with every kind of station: near alone, far alone, mixed; fields longer than they must be, of lengths that are no multiple of 13
+    for body in [TETRAHEDRON, OCTAHEDRON, CUBE] * 2 + [closed_mesh(r) for _ in range(8)] + [fan(n, 0.25) for n in (10, 21, 31)]:
+        body = shuffled(r, *body, unused=r.choice((0, 0, 1, 3)))
+        table = stations(r, *body)
+        table += [tuple(a + d for a, d in zip(table[10], u)) for u in ((1.0, 0.0, 0.0), (0.0, 2.0, 0.0), (0.0, -3.0, 1.0))]
+        kinds = [range(8), range(10, 14), range(14)]
+        yield from add(body, table, [(range(14),)] + [(some(places, s), 0, r.choice((0, 0, 2)), r.choice((0, 0, 1, 12, 13, 40))) for s in (0, 1, 7, 8, 9, 17) for places in kinds])
+    # 64 and 65 edges through a station, at the middle of a fan and at its top, at each place of a block and of the block after it; where several are refused, the first counts
+    for n in (64, 65):
+        for tilt in (0.0, 0.25):
+            body = shuffled(r, *fan(n, tilt), unused=1)
+            table = [(0.0, 0.0, -tilt), (0.1, 0.2, 1.5), (0.1, 0.05, -0.3), (0.2, 0.1, 0.5), (30.0, 2.0, 1.0), (-8.0, 40.0, 3.0), (0.5, 0.5, 0.0)]
+            through = [some(range(2, 7), at) + some((0, 1), 1) + some(range(2, 7), (7 if at < 8 else 16) - at) for at in range(17)]
+            yield from add(body, table, [(places, 0, 0, r.choice((0, 5))) for places in through + [some(range(7), s) for s in (7, 8, 9, 17)] + [[0] * 8]])
+    # the other refusals, two at once among them: a station that 3 refuses after one that 11 would, lists too short
+    table = [(0.0, 0.0, 0.0), (2.0, 1.0, 0.0), (1000000000.0000001, 0.0, 0.0), (0.0, float("nan"), 0.0), (0.0, 0.0, -float("inf")), (1e9, -1e9, 1e9)]
+    yield from add(fan(65), table, [([1, 5, 1],), ([0, 2],), ([1, 3, 0],), ([1] * 8 + [4],), ([0, 1, 2], 0, -1), ([0, 1, 2], 0, 0, -1), ([1, 2], -1, -1, -1), ([1, 2], -2), ([1, 0], 1), ([], 0, -1), ([1], 0, 0, -13), ([1] * 9, 0, 0, -1)])
+    v, f = TETRAHEDRON
+    faulty = [(v, [(a, c, b) for a, b, c in f]), (v, f[:3]), (v, f[:3] + [(1, 3, 2)]), (v, [(0, 0, 1)]), (v, []), (v[:3] + [(0.0, 2e9, 0.0)], f), (v, f[:3] + [(1, 2, 4)]), (v + [(1.0,)], f), (v, f + [(0,)])]
+    for body in faulty + [damaged(r, *closed_mesh(r)) for _ in range(30)]:
+        yield from add(body, table[:4], [([],), ([1, 1],), ([2],), ([1] * 8, 0, 3, 7), ([1], -1), ([0, 1], 0, -1 if body[1] else 0), ([0, 1], 0, 0, -1)])
+    assert met >= {("refused", n) for n in (0, 1, 3, 4, 5, 6, 7, 8, 11, 12)} | {("stations", s) for s in (0, 1, 7, 8, 9, 17)}
+
+
 LISTS = {"roots": roots, "carlson": carlson, "special": special, "anomalies": anomalies}
 # for a list of several calls: each call's number, and how many arguments a line has
 CALLS = {
@@ -545,6 +632,8 @@ if __name__ == "__main__":
         lines = meshes(reference)
     elif name == "polyhedra":
         lines = polyhedra(reference)
+    elif name == "profiles":
+        lines = profiles(reference)
     elif name == "prisms":
         lines = answers(reference, prisms(reference), {}, 0)
     else:

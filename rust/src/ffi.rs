@@ -18,6 +18,10 @@ extern "C" {
         station: *const [f64; 3], verts: *const f64, verts_len: usize, faces: *const u32, faces_len: usize, work: *mut u32, work_len: usize,
         out: *mut [f64; 13], values: *mut [u32; 2],
     ) -> u32;
+    pub fn physica_profile(
+        stations: *const f64, stations_len: usize, verts: *const f64, verts_len: usize, faces: *const u32, faces_len: usize, work: *mut u32, work_len: usize,
+        fields: *mut f64, fields_len: usize, values: *mut [u32; 2],
+    ) -> u32;
     pub fn physica_body(hessian: *const [f64; 9], magnetisation: *const [f64; 3], out: *mut [f64; 3]) -> u32;
     pub fn physica_total_field(ambient: *const [f64; 3], anomaly: *const [f64; 3], out: *mut f64) -> u32;
     pub fn physica_sphere(p: *const [f64; 3], centre: *const [f64; 3], radius: f64, magnetisation: *const [f64; 3], out: *mut [f64; 3]) -> u32;

@@ -15,9 +15,11 @@
 //! # Ok::<(), physica::Refusal>(())
 //! ```
 pub mod ffi;
+mod profiles;
 mod refusal;
 mod sheets;
 
+pub use profiles::{profile, profile_into, ProfileError};
 pub use refusal::Refusal;
 pub use sheets::{check_sheet, sheet_length, sheet_row, sheet_rows, write_sheet, write_sheet_into, Accepted, Body, Row, Rows};
 

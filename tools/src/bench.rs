@@ -1,5 +1,5 @@
 //! bench [TURNS]: times each call here and in the reference build, on the same inputs in one program, and prints a table: call, inputs, nanoseconds a call,
-//! ratio; then what checking a sheet takes against the fields of its stations. A time is the best of TURNS turns (default 30), taken in alternation.
+//! ratio; then profiles beside the reference and beside single calls; then what checking a sheet takes against the fields of its stations. A time is the best of TURNS turns (default 30), taken in alternation.
 use both::*;
 use geopotential::{bodies, gauss_legendre, special};
 use magnetics::anomaly;
@@ -86,6 +86,12 @@ fn polyhedron(p: &V3, m: &Mesh, work: &std::cell::RefCell<Vec<u32>>) {
     black_box(out);
 }
 
+fn check_mesh(m: &Mesh, work: &std::cell::RefCell<Vec<u32>>) {
+    let (mut out, mut values, mut w) = (0.0, [0; 2], work.borrow_mut());
+    assert_eq!(unsafe { ffi::physica_check_mesh(m.verts.as_ptr(), m.verts.len(), m.faces.as_ptr(), m.faces.len(), w.as_mut_ptr(), w.len(), &mut out, &mut values) }, 0);
+    black_box(out);
+}
+
 fn integrals(b: &Bench, r: &mut Random) {
     let one = |n: u32, x: f64| { assert_eq!(n, 0); black_box(x); };
     let lists = |r: &mut Random, n: usize, a: f64, b: f64| -> Vec<Vec<f64>> { (0..256).map(|_| r.list(n, a, b)).collect() };
@@ -131,11 +137,7 @@ fn meshes(b: &Bench, r: &mut Random) {
         let (v, f) = (points(&m.verts), corners(&m.faces));
         let work = std::cell::RefCell::new(vec![0; m.room]);
         let name = format!("{} faces", f.len());
-        b.row("check_mesh", &name, &[()], |_| {
-            let (mut out, mut values, mut w) = (0.0, [0; 2], work.borrow_mut());
-            assert_eq!(unsafe { ffi::physica_check_mesh(m.verts.as_ptr(), m.verts.len(), m.faces.as_ptr(), m.faces.len(), w.as_mut_ptr(), w.len(), &mut out, &mut values) }, 0);
-            black_box(out);
-        }, |_| { black_box((bodies::check_mesh(&v, &f).unwrap(), order_list(&m.faces))); });
+        b.row("check_mesh", &name, &[()], |_| check_mesh(&m, &work), |_| { black_box((bodies::check_mesh(&v, &f).unwrap(), order_list(&m.faces))); });
         if n > 12 {
             continue;
         }
@@ -215,6 +217,40 @@ fn best_of(turns: usize, parts: [&dyn Fn(); 4]) -> [f64; 4] {
     best
 }
 
+/// Profiles of 64 stations, every second one far where they are mixed. The reference's part is its mesh check, once, and the sums of each station; the fields
+/// are the single calls less a mesh check each.
+fn profiles(turns: usize, r: &mut Random) {
+    println!("\n| profile of 64 stations | this library | reference | ratio | 64 single calls | ratio | 64 fields | ratio |\n|---|---|---|---|---|---|---|---|");
+    let (near, far) = (1.5, 9.0);
+    for n in [3, 12, 33] {
+        let m = sphere(n);
+        let (v, f) = (points(&m.verts), corners(&m.faces));
+        let triangles = m.faces.as_chunks::<3>().0;
+        for (kind, scales) in [("near", [near, near]), ("far", [far, far]), ("mixed", [near, far])] {
+            let ps: Vec<V3> = (0..64).map(|i| core::array::from_fn(|_| scales[i % 2] * r.between(0.6, 1.0))).collect();
+            let lent = std::cell::RefCell::new((vec![0; m.room], vec![0.0; 13 * ps.len()]));
+            let work = std::cell::RefCell::new(vec![0; m.room]);
+            let [here, reference, single, check] = best_of(turns, [
+                &|| {
+                    let (work, fields) = &mut *lent.borrow_mut();
+                    assert!(physica::profile_into(black_box(&ps), &v, triangles, work, fields).is_ok());
+                },
+                &|| {
+                    black_box(bodies::check_mesh(&v, &f).unwrap());
+                    for (i, p) in black_box(&ps).iter().enumerate() {
+                        black_box(if scales[i % 2] == far { bodies::tetrahedra(*p, [0.0; 3], &v, &f) } else { bodies::edge_face_sums(*p, &v, &f) });
+                    }
+                },
+                &|| black_box(&ps).iter().for_each(|p| polyhedron(p, &m, &work)),
+                &|| check_mesh(&m, &work),
+            ]);
+            let fields = single - check * ps.len() as f64;
+            let [a, b, c, d] = [here, reference, single, fields].map(|t| nanoseconds(t * 1e9));
+            println!("| {kind}, {} faces | {a} | {b} | {:.2} | {c} | {:.2} | {d} | {:.2} |", f.len(), here / reference, single / here, fields / here);
+        }
+    }
+}
+
 /// The least closed body.
 fn tetrahedron() -> Mesh {
     let verts = vec![0.0, 0.0, 0.0, 1.0, 0.0, 0.0, 0.0, 1.0, 0.0, 0.0, 0.0, 1.0];
@@ -237,11 +273,7 @@ fn checking(turns: usize) {
         let times = best_of(turns, [
             &|| assert!(physica::check_sheet(black_box(&sheet)).is_ok()),
             &|| polyhedron(&p, &m, &work),
-            &|| {
-                let (mut out, mut values, mut w) = (0.0, [0; 2], work.borrow_mut());
-                assert_eq!(unsafe { ffi::physica_check_mesh(m.verts.as_ptr(), m.verts.len(), m.faces.as_ptr(), m.faces.len(), w.as_mut_ptr(), w.len(), &mut out, &mut values) }, 0);
-                black_box(out);
-            },
+            &|| check_mesh(&m, &work),
             &|| {
                 let (mut anomaly, mut total) = ([0.0; 3], 0.0);
                 assert_eq!(unsafe { ffi::physica_body(black_box(&hessian), &magnetisation, &mut anomaly) + ffi::physica_total_field(&ambient, &anomaly, &mut total) }, 0);
@@ -263,5 +295,6 @@ fn main() {
     meshes(&b, &mut r);
     magnetic(&b, &mut r);
     sheets(&b, &mut r);
+    profiles(turns, &mut r);
     checking(turns);
 }

@@ -280,6 +280,58 @@ pub fn polyhedron_reference(p: V3, m: &Mesh) -> Answer {
     Answer { work: work_after(answer.number, &m.faces, m.room), ..answer }
 }
 
+// ---- profiles
+
+#[derive(Clone, Debug)]
+pub struct Profile {
+    pub mesh: Mesh,
+    pub stations: Vec<f64>,
+    /// How many numbers are lent.
+    pub room: usize,
+}
+
+pub fn profile_here(q: &Profile) -> Answer {
+    let (s, v, f) = (&q.stations, &q.mesh.verts, &q.mesh.faces);
+    let (mut work, mut fields, mut values) = (vec![BEFORE_WORK; q.mesh.room], vec![BEFORE; q.room], BEFORE_VALUES);
+    let n = unsafe {
+        ffi::physica_profile(
+            s.as_ptr(), s.len(), v.as_ptr(), v.len(), f.as_ptr(), f.len(), work.as_mut_ptr(), work.len(), fields.as_mut_ptr(), fields.len(), &mut values,
+        )
+    };
+    Answer { work, ..Answer::numbers(n, values, &fields) }
+}
+
+/// 1, 2, 12 and 3.
+fn given_cause(q: &Profile) -> u32 {
+    let (m, s) = (&q.mesh, q.stations.len());
+    first(&[
+        unless(m.verts.len() % 3 == 0 && m.faces.len() % 3 == 0 && s % 3 == 0, 1),
+        unless(m.verts.len() / 3 <= 20_000 && m.faces.len() / 3 <= 32_768 && s / 3 <= 65_536, 2),
+        unless(m.faces.len() <= m.room && 13 * (s / 3) <= q.room, 12),
+        unless(all_within(&m.verts) && all_within(&q.stations), 3),
+    ])
+}
+
+/// Station by station, up to the first that is refused.
+fn profile_fields(q: &Profile, fields: &mut [f64]) -> Result<(), (u32, [u32; 2])> {
+    match given_cause(q) {
+        0 => surface(&q.mesh.verts, &q.mesh.faces)?,
+        n => return Err((n, [0, 0])),
+    };
+    let (v, f) = (points(&q.mesh.verts), corners(&q.mesh.faces));
+    for (i, p) in points(&q.stations).into_iter().enumerate() {
+        let record = caught(|| field(bodies::polyhedron(p, &v, &f))).map_err(|n| (n, [i as u32, 0]))?;
+        fields[13 * i..13 * i + 13].copy_from_slice(&record);
+    }
+    Ok(())
+}
+
+pub fn profile_reference(q: &Profile) -> Answer {
+    let mut fields = vec![BEFORE; q.room];
+    let (number, values) = profile_fields(q, &mut fields).err().unwrap_or((0, [0, 0]));
+    Answer { work: work_after(number, &q.mesh.faces, q.mesh.room), ..Answer::numbers(number, values, &fields) }
+}
+
 // ---- sheets, made and judged by document 01's text over the reference build's fields
 
 #[derive(Clone, Debug)]

@@ -1,6 +1,6 @@
-//! compare [--count NUMBER,PRISM,MESH,SHEET] SEED..: asks the library and the reference build the same, and prints a table: call, inputs, differences.
+//! compare [--count NUMBER,PRISM,MESH,SHEET[,PROFILE]] SEED..: asks the library and the reference build the same, and prints a table: call, inputs, differences.
 //! NUMBER inputs for each call on numbers and vectors, PRISM prisms, MESH meshes (each for check_mesh and, with a station, for polyhedron), SHEET sheets
-//! (each written, then damaged and checked), for each seed. The exit status is 1 if anything differs.
+//! (each written, then damaged and checked), PROFILE profiles (without it as many as meshes), for each seed. The exit status is 1 if anything differs.
 use both::*;
 use std::collections::BTreeMap;
 
@@ -235,6 +235,99 @@ fn station(r: &mut Random, verts: &[f64], faces: &[u32]) -> V3 {
     }
 }
 
+// ---- profiles
+
+/// The pyramid over a regular polygon whose base is a fan about its middle, vertex 0: n edges meet there, in one plane unless tilted, and n at the top.
+fn fan(n: usize, tilt: f64) -> (Vec<V3>, Vec<[u32; 3]>) {
+    let mut v: Vec<V3> = vec![[0.0, 0.0, -tilt]];
+    v.extend((0..n).map(|k| { let a = std::f64::consts::TAU * k as f64 / n as f64; [a.cos(), a.sin(), 0.0] }));
+    v.push([0.1, 0.2, 1.5]);
+    let (m, top) = (n as u32, n as u32 + 1);
+    let f = (0..m).flat_map(|k| { let (a, b) = (1 + k, 1 + (k + 1) % m); [[0, b, a], [a, b, top]] }).collect();
+    (v, f)
+}
+
+/// How many stations: none, one, about a block, about two, any.
+fn count(r: &mut Random) -> usize {
+    match r.below(8) {
+        0 => r.pick(&[0, 1]),
+        1 | 2 => r.pick(&[7, 8, 9]),
+        3 => r.pick(&[15, 16, 17]),
+        _ => r.below(28),
+    }
+}
+
+/// Stations of one kind or of all kinds: near, far (beyond five radii), anywhere.
+fn stations(r: &mut Random, m: &Mesh, n: usize) -> Vec<f64> {
+    let kind = r.below(4);
+    let mut all = Vec::new();
+    for _ in 0..n {
+        let p = station(r, &m.verts, &m.faces);
+        let size = m.verts.iter().fold(1e-3, |a: f64, x| a.max(if within(*x) { x.abs() } else { 0.0 })).min(1e7);
+        all.extend(match kind {
+            0 => core::array::from_fn(|_| 1.2 * size * r.between(-1.0, 1.0)),
+            1 => { let d = size * r.between(10.0, 40.0); let u: V3 = core::array::from_fn(|_| r.between(0.6, 1.0)); core::array::from_fn(|i| d * r.signed(u[i])) }
+            _ => p,
+        });
+    }
+    all
+}
+
+/// Bodies of every kind, with stations of every kind; a fan with 63 to 66 edges, at whose middle or top one or two stations of the profile lie; lists of wrong lengths.
+fn profile(r: &mut Random) -> Profile {
+    let fans = r.chance(6);
+    let mesh = if fans {
+        let (n, tilt) = (r.pick(&[63, 64, 65, 65, 66]), r.pick(&[0.0, 0.25]));
+        let (v, f) = fan(n, tilt);
+        let faces = f.concat();
+        Mesh { verts: flat(&v), room: faces.len() + r.below(3), faces }
+    } else if r.chance(3) {
+        mesh(r)
+    } else {
+        let (v, f) = closed(r);
+        let faces = f.concat();
+        Mesh { verts: flat(&v), room: faces.len() + r.below(3), faces }
+    };
+    let n = count(r);
+    let mut stations = stations(r, &mesh, n);
+    if fans && n > 0 {
+        for _ in 0..1 + r.below(2) {
+            let (at, vertex) = (3 * r.below(n), r.pick(&[0, mesh.verts.len() - 3]));
+            stations[at..at + 3].copy_from_slice(&mesh.verts[vertex..vertex + 3]);
+        }
+    }
+    let mut q = Profile { mesh, room: 13 * n + r.pick(&[0, 0, 1, 12, 13, 14, 27]), stations };
+    // one fault now and then, or several
+    for _ in 0..r.pick(&[0, 0, 1, 6]) {
+        match r.below(16) {
+            0 => { q.stations.pop(); }
+            1 => q.room = (13 * n).saturating_sub(r.pick(&[1, 12, 13])),
+            2 => q.room = 12 * n,
+            3 => q.mesh.room = q.mesh.faces.len().saturating_sub(1 + r.below(3)),
+            4 | 5 => { let x = number(r); q.stations.last_mut().map(|y| *y = x); }
+            6 if !q.stations.is_empty() => { let i = r.below(q.stations.len()); q.stations[i] = r.pick(&[f64::NAN, 2e9, f64::NEG_INFINITY, 1000000000.0000001]); }
+            _ => {}
+        }
+    }
+    q
+}
+
+/// More than 64 edges through the station at each place of a block, the last included, and of the next block.
+fn refused_stations(r: &mut Random, table: &mut Table) {
+    for n in [64, 65] {
+        for (at, tilt) in (0..17).flat_map(|at| [(at, 0.0), (at, 0.25)]) {
+            let (v, f) = fan(n, tilt);
+            let faces = f.concat();
+            let mesh = Mesh { verts: flat(&v), room: faces.len(), faces };
+            let count = if at < 8 { 8 } else { 17 };
+            let mut stations: Vec<f64> = (0..count).flat_map(|_| { let d = r.pick(&[0.7, 3.0, 40.0]); [d * r.between(0.3, 1.0), d * r.between(0.3, 1.0), d] }).collect();
+            stations[3 * at..3 * at + 3].copy_from_slice(&if r.chance(2) { v[0] } else { v[n + 1] });
+            let q = Profile { mesh, room: 13 * count + r.below(14), stations };
+            table.add("profile", &profile_here(&q), &profile_reference(&q), || format!("{q:?}"));
+        }
+    }
+}
+
 // ---- sheets
 
 fn sheet(r: &mut Random) -> Sheet {
@@ -385,6 +478,13 @@ fn limits(table: &mut Table) {
         let m = Mesh { room: faces.len(), verts, faces };
         table.add("check_mesh", &mesh_here(&m), &mesh_reference(&m), || format!("{v} {f}"));
         table.add("polyhedron", &polyhedron_here([9.0; 3], &m), &polyhedron_reference([9.0; 3], &m), || format!("{v} {f}"));
+        // without room, with a last station that is refused by 3, and all of it
+        for (room, last) in [(0, 2.0), (13 * n, 2e9), (13 * n, 2.0)] {
+            let mut stations: Vec<f64> = (0..3 * n).map(|i| 1.0 + (i % 1000) as f64 / 1000.0).collect();
+            stations.last_mut().map(|x| *x = last);
+            let q = Profile { mesh: m.clone(), stations, room };
+            table.add("profile", &profile_here(&q), &profile_reference(&q), || format!("{v} {f} {n} {room} {last}"));
+        }
         for room in [0, sheet_length(v, f, n)] {
             // a station that is refused by 3 ends the work early
             let mut stations = vec![2.0; 3 * n];
@@ -426,16 +526,25 @@ fn run(seed: u64, counts: &[usize], table: &mut Table) {
         let i = r.below(5);
         table.add("check_sheet, sheet_rows, sheet_row", &check_here(&b, i), &check_reference(&b, i), || format!("{i} {b:?}"));
     }
+    for _ in 0..counts[4] {
+        let q = profile(&mut r);
+        table.add("profile", &profile_here(&q), &profile_reference(&q), || format!("{q:?}"));
+    }
+    refused_stations(&mut r, table);
     limits(table);
 }
 
 fn main() {
     let mut words: Vec<String> = std::env::args().skip(1).collect();
     let mut counts = vec![10_000, 10_000, 1_000, 1_000];
+    let usage = "--count NUMBER,PRISM,MESH,SHEET[,PROFILE]";
     if words.first().map(String::as_str) == Some("--count") {
-        counts = words[1].split(',').map(|w| w.parse().expect("--count NUMBER,PRISM,MESH,SHEET")).collect();
-        assert_eq!(counts.len(), 4, "--count NUMBER,PRISM,MESH,SHEET");
+        counts = words[1].split(',').map(|w| w.parse().expect(usage)).collect();
+        assert!([4, 5].contains(&counts.len()), "{usage}");
         words.drain(..2);
+    }
+    if counts.len() == 4 {
+        counts.push(counts[2]);
     }
     start();
     let mut table = Table(vec![]);

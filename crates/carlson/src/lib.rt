@@ -18,9 +18,9 @@ ghost use Rattle.carlson.specs.Arctangent.{withSign, atanWithin, atan, a
 pub const MAX_ROUNDS: u32 = 64;
 
 // (3ε)^(-1/8)
-const RC_FACTOR: f64 = f64::from_bits(0x4053_b957_8eb0_bf54);
+pub const RC_FACTOR: f64 = f64::from_bits(0x4053_b957_8eb0_bf54);
 
-const LN_2: f64 = 0.6931471805599453;
+pub const LN_2: f64 = 0.6931471805599453;
 
 // What the duplication of R_C carries from round to round: Carlson's x, y and A at round n, f = 4^-n, and n.
 pub struct RoundC {
@@ -87,7 +87,7 @@ fn repeat_c(q: f64, s: RoundC) -> RoundC
 }
 
 // The series that ends R_C.
-fn series_c(s: f64) -> f64
+pub fn series_c(s: f64) -> f64
     ensures { λ r. ⌜ r ≡ seriesC s ⌝ }
 {
     1.0

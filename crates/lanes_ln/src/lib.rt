@@ -6,9 +6,8 @@ ghost use lib.ListN.{length};
 ghost use Rattle.carlson.specs.Logarithm.{ln};
 ghost use Rattle.lanes.specs.Lanes.{lane, Lanes};
 ghost use Rattle.lanes_ln.specs.LnLanes.{Normal, patternOf, scaleOf, fractionOf, scaleAt, fractionAt, squareAt};
+use carlson::LN_2;
 use lanes::pick;
-
-const LN_2: f64 = 0.6931471805599453;
 
 // The smallest normal number above zero, 2^-1022, and the largest.
 const SMALLEST: f64 = f64::from_bits(0x10_0000_0000_0000);

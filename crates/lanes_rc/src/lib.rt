@@ -4,23 +4,6 @@ ghost use mathlib.Core.Bool.{cond};
 ghost use Rattle.doubles.specs.Rounded.{_⊕_, _⊗_};
 ghost use Rattle.doubles.specs.Constants.{2·0};
 ghost use Rattle.roots.specs.Root.{Root};
-ghost use Rattle.carlson.specs.Rc.{seriesC};
-
-// (3ε)^(-1/8)
-pub const RC_FACTOR: f64 = f64::from_bits(0x4053_b957_8eb0_bf54);
-
-// The series that ends R_C.
-pub fn series_c(s: f64) -> f64
-    ensures { λ r. ⌜ r ≡ seriesC s ⌝ }
-{
-    1.0
-        + s
-            * s
-            * (3.0 / 10.0
-                + s
-                    * (1.0 / 7.0
-                        + s * (3.0 / 8.0 + s * (9.0 / 22.0 + s * (159.0 / 208.0 + s * 9.0 / 8.0)))))
-}
 
 // λ of a round, where the lane makes one. Where it makes none nobody asks for λ, and the two roots are saved.
 pub fn lambda_if(t: bool, x: f64, y: f64) -> f64

@@ -7,12 +7,12 @@ ghost use Rattle.carlson.specs.CarlsonLoop.{loopTest};
 ghost use Rattle.carlson.specs.Rc.{A₀C, QC};
 ghost use Rattle.lanes.specs.Lanes.{lane, Lanes};
 ghost use Rattle.lanes_rc.specs.LaneRounds.{States, Ended, afterOne, afterAll, ending, rcNumber};
+use carlson::RC_FACTOR;
 use carlson::loop_test;
+use carlson::series_c;
 use lanes::pick;
 use lanes::roots_8;
-use lanes_rc::RC_FACTOR;
 use lanes_rc::lambda_if;
-use lanes_rc::series_c;
 
 // Whether the loop's test holds in some lane. A no says that it fails in all; a wrong yes would cost a round that changes nothing.
 fn any_holds(q: &[f64; 8], a: &[f64; 8], f: &[f64; 8]) -> bool

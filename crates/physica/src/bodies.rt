@@ -1,11 +1,13 @@
-// The bodies: prism, mesh, polyhedron.
+// The bodies: prism, mesh, polyhedron at a station and along a profile.
 ghost use mathlib.Core.Path.{_≡_};
 ghost use lib.ListN.{length};
 ghost use Rattle.prism.specs.Prism.{prism};
 ghost use Rattle.mesh.specs.Check.{checkMesh, meshCause, workAfter};
 ghost use Rattle.polyhedron.specs.Polyhedron.{polyhedron, polyhedronCause};
+ghost use Rattle.profile.specs.Profile.{profileCause, fieldsAfter};
 ghost use Rattle.newtonian.specs.Vectors.{fieldNumbers};
-ghost use Rattle.physica_lent.specs.Exported.{vectorOf, itself, GivesValues};
+ghost use Rattle.physica_lent.specs.Exported.{vectorOf, itself, GivesValues, GivesCause};
+use physica_lent::give::give_cause;
 use physica_lent::give::give_field;
 use physica_lent::give::give_volume;
 use physica_lent::take::vector_of;
@@ -58,4 +60,25 @@ pub extern "C" fn physica_polyhedron(
 {
     let field = polyhedron::polyhedron(vector_of(station), verts, faces, work);
     give_field(field, out, values)
+}
+
+// The fields of a closed mesh at S stations, thirteen numbers each, into the front of fields: 1, 2, 12, 3, 4, 5, 6, 7, 8, then 11 with the first
+// station that is refused, after the records before it.
+#[no_mangle]
+pub extern "C" fn physica_profile(
+    stations: &[f64],
+    verts: &[f64],
+    faces: &[u32],
+    work: &mut [u32],
+    fields: &mut [f64],
+    values: &mut [u32; 2],
+) -> u32
+    ensures { λ r. ⌜ GivesCause (profileCause (now (verts .entry)) (now (faces .entry)) (now (stations .entry)) (length (now (work .entry))) (length (now (fields .entry)))) r (now (values .exit)) ⌝ }
+    ensures work { λ _. ⌜ now (work .exit) ≡ workAfter (profileCause (now (verts .entry)) (now (faces .entry)) (now (stations .entry)) (length (now (work .entry))) (length (now (fields .entry))))
+        (now (faces .entry)) (now (work .entry)) ⌝ }
+    ensures fields { λ _. ⌜ now (fields .exit) ≡ fieldsAfter (profileCause (now (verts .entry)) (now (faces .entry)) (now (stations .entry)) (length (now (work .entry))) (length (now (fields .entry))))
+        (now (verts .entry)) (now (faces .entry)) (now (stations .entry)) (now (fields .entry)) ⌝ }
+{
+    let cause = profile::profile(stations, verts, faces, work, fields);
+    give_cause(cause, values)
 }

@@ -6,6 +6,8 @@ use lib.ListN.{getD}
 use lib.Ieee.{Float, nan}
 use Rattle.refusals.specs.Numbers.{numberOf, valuesOf}
 use Rattle.refusals.specs.Answer.{Answer, value, refused}
+use Rattle.refusals.specs.declared.Cause.{Cause}
+use Rattle.refusals.specs.declared.Cause.the-variants.{None, Refused}
 use Rattle.newtonian.specs.declared.Vector.{Vector}
 use Rattle.newtonian.specs.declared.Hessian.{Hessian}
 use Rattle.rings.specs.declared.Complete.{Complete}
@@ -79,3 +81,12 @@ pub record GivesValues {S T : Type 0} (numbers : S → T) (a : Answer S) (r : �
   pub number : r ≡ returned a
   pub out : after ≡ written numbers a before
   pub values : vs ≡ valuesAfter a
+
+-- the same of a call whose answer is whether it refuses: it returns 0 or the refusal's number, and writes the refusal's values
+abbrev pub causeAnswer : Cause → Answer (List ℕ)
+causeAnswer None = value []
+causeAnswer (Refused r) = refused r
+
+pub record GivesCause (c : Cause) (r : ℕ) (vs : List ℕ) : Type 0 where
+  pub number : r ≡ returned (causeAnswer c)
+  pub values : vs ≡ valuesAfter (causeAnswer c)

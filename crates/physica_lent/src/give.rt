@@ -10,7 +10,7 @@ ghost use Rattle.legendre.specs.Answers.{ruleAnswer};
 ghost use Rattle.writer.specs.Written.{writtenAnswer};
 ghost use Rattle.sheet.specs.Checker.{verdictAnswer};
 ghost use Rattle.newtonian.specs.Vectors.{vectorNumbers, fieldNumbers};
-ghost use Rattle.physica_lent.specs.Exported.{completeNumbers, ringNumbers, nodesOf, weightsOf, itself, two, Gives, GivesValues};
+ghost use Rattle.physica_lent.specs.Exported.{completeNumbers, ringNumbers, nodesOf, weightsOf, itself, two, Gives, GivesValues, GivesCause};
 use anomaly::NumberAnswer;
 use anomaly::VectorAnswer;
 use carlson::Integral;
@@ -192,6 +192,22 @@ pub fn give_verdict(a: Verdict, found: &mut [u32; 2], values: &mut [u32; 2]) -> 
             0
         }
         Verdict::Refused(r) => {
+            let v = values_of(r);
+            *values = v;
+            number(r)
+        }
+    }
+}
+
+pub fn give_cause(c: Cause, values: &mut [u32; 2]) -> u32
+    ensures { λ n. ⌜ GivesCause c n (now (values .exit)) ⌝ }
+{
+    match c {
+        Cause::None => {
+            *values = [0, 0];
+            0
+        }
+        Cause::Refused(r) => {
             let v = values_of(r);
             *values = v;
             number(r)

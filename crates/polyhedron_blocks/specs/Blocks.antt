@@ -1,17 +1,15 @@
 -- No part of the field's definition: how the code holds the sums of a block of stations, over which it walks the faces once. Lists of keys, of dyads and of running sums have an entry
 -- for each station, in the stations' order. Definitions only.
 use mathlib.Core.Path.{_≡_}
-use mathlib.Core.Bool.{Bool, cond}
 use mathlib.Core.List.{List, []}
 use Prim.Native.Nat.{ℕ, _<_}
 use lib.Ieee.{Float, nan}
 use lib.ListN.{length, getD}
 use Rattle.newtonian.specs.declared.Vector.{Vector}
 use Rattle.polyhedron_on_edge.specs.Block.{Sized}
-use Rattle.polyhedron_edge_face_sums.specs.EdgeFaceSums.{Sums, addTriangle}
+use Rattle.polyhedron_edge_face_sums.specs.EdgeFaceSums.{Sums}
 use Rattle.polyhedron_edge_face_sums.specs.Carried.{Carries}
 use Rattle.polyhedron_edge_face_sums.specs.declared.Running.{Running}
-use Rattle.polyhedron_edge_face_sums.specs.declared.Triangle.{Triangle}
 
 -- so many stations to a block
 abbrev pub blockSize : ℕ
@@ -23,10 +21,6 @@ noVector = record { x = nan; y = nan; z = nan }
 
 abbrev pub noRun : Running
 noRun = record { field = record { potential = nan; gradient = noVector; hessian = record { x = noVector; y = noVector; z = noVector } }; count = 0 }
-
--- the sums s of the station at p with the face t, if the station is near
-abbrev pub withFace : Bool → Vector → Triangle → Sums → Sums
-withFace near p t s = cond near (addTriangle p t s) s
 
 -- the sizes of the room for a block's edges
 pub record Room (keys : List (List ℕ)) (dyads : List (List Float)) : Type 0 where

@@ -3,19 +3,20 @@ use mathlib.Core.Bool.{false, true}
 use mathlib.Core.List.{List}
 use mathlib.Core.Logic.{⊎-elim}
 use mathlib.Core.Path.{_≡_, refl}
-use Prim.Native.Nat.{_<_, _≤_, ℕ}
+use Prim.Native.Nat.{_+_, _<_, _≤_, ℕ, suc, zero}
 use native.Mathlib.Omega.{arith}
 use borrow.Author.Tests.{le-leb, lt-leb}
 use lib.Ieee.{Float}
 use lib.Ieee.Scale.{finite}
 use lib.ListN.{length}
-use Rattle.polyhedron_edge_face_sums.specs.Carried.{Carries}
-use Rattle.polyhedron_edge_face_sums.specs.EdgeFaceSums.{Sums, addSide, edgeFaceSums, fieldOf, noFaces, sumsOf}
+use Rattle.polyhedron_edge_face_sums.specs.Carried.{Carries, withFaces}
+use Rattle.polyhedron_edge_face_sums.specs.EdgeFaceSums.{Sums, addSide, addTriangle, edgeFaceSums, fieldOf, noFaces, sumsOf, triangleOf}
 use Rattle.polyhedron_edge_face_sums.specs.declared.Running.{Running}
 use Rattle.polyhedron_edge_terms.specs.EdgeTerms.{addEdgeTerms, dyad, logarithm, symmetric}
 use Rattle.polyhedron_edge_terms.specs.declared.Corner.{Corner}
 use Rattle.polyhedron_edge_terms.specs.declared.Side.{Side}
 use Rattle.lists.proofs.Numbers.{below?}
+use Rattle.newtonian.specs.Fold.{Fold}
 use Rattle.newtonian.specs.Vectors.{zeroField}
 use Rattle.newtonian.specs.declared.Hessian.{Hessian}
 use Rattle.newtonian.specs.declared.Newtonian.{Newtonian}
@@ -62,3 +63,9 @@ module _ (i : ℕ) (p : Vector) (v : List Float) (f : List ℕ) (keys : List ℕ
   not-too-many l t q =
       let s = sumsOf p v f in
       simp (le-leb (length (s .edges)) edgeLimit (held-few (s .edges) keys dyads (r .count) (c .edges) l), q, c .field)
+
+-- the n faces from the first on are the first n
+pub from-first : (p : Vector) (v : List Float) (f : List ℕ) (n : ℕ) (s : Sums) → withFaces p v f 0 n s ≡ Fold n (λ k. addTriangle p (triangleOf v f k)) s
+unfolding Fold
+from-first p v f zero s = refl
+from-first p v f (suc n) s = let e : 0 + n ≡ n = omega arith in rw (e, from-first p v f n s)

@@ -1,6 +1,6 @@
--- The logarithms that are kept: one more is kept, and the logarithm of a use is its mate's. Assumes nothing.
+-- The logarithms that are kept: one more is kept, and the logarithm of a use is its mate's; without mates and room none is kept (`none-logged`). Assumes nothing.
 use mathlib.Core.Bool.{cond}
-use mathlib.Core.List.{List}
+use mathlib.Core.List.{List, []}
 use mathlib.Core.Logic.{⊎-elim}
 use mathlib.Core.Path.{_≡_, ap, ap₂, _∙_}
 use Prim.Native.Nat.{_+_, _*_, _/_, _%_, _≤_, _<_, ℕ}
@@ -31,6 +31,9 @@ module _ (g : ℕ → Float) (logs : List Float) (u : ℕ) (h : Held g logs u) w
 
   pub held-past : length logs ≤ u → Held g logs (u + 1)
   held-past k j p q = h j (omega arith) q
+
+pub none-logged : (g : ℕ → Float) (n : ℕ) → Logged g [] [] n
+none-logged g n = record { alike = λ u l. absurd (omega arith); held = λ u l m. absurd (omega arith) }
 
 -- what is taken for edge use u: the logarithm of its mate w, where w came before, else the computed one
 module _ (mates : List ℕ) (logs : List Float) (u w : ℕ) (r : length logs ≡ length mates) (q : length mates ≤ u → w ≡ u) where

@@ -1,6 +1,7 @@
 // The field of a polyhedron near it, by the edge and face sums of Werner & Scheeres (1997), face by face.
 ghost use mathlib.Core.Path.{_≡_};
 ghost use mathlib.Core.Bool.{cond};
+ghost use mathlib.Core.List.{List};
 ghost use Prim.Native.Nat.{ℕ, _+_, _*_, _≤_, _<_};
 ghost use lib.Dec.{ltb};
 ghost use lib.Ieee.{Float, nan};
@@ -12,8 +13,8 @@ ghost use Rattle.polyhedron_on_edge.specs.Block.{Sized};
 ghost use Rattle.polyhedron_edge_terms.specs.EdgeTerms.{logarithm};
 ghost use Rattle.polyhedron_edge_terms.specs.declared.Corner.{Corner};
 ghost use Rattle.polyhedron_edge_face_sums.specs.EdgeFaceSums.{Sums, triangleOf, addSide, addTriangle, sumsOf, edgeFaceSums};
-ghost use Rattle.polyhedron_edge_face_sums.specs.Carried.{Carries};
-ghost use Rattle.polyhedron_edge_face_sums.specs.KeptLogarithms.{Held, Logged, Sides, Mated};
+ghost use Rattle.polyhedron_edge_face_sums.specs.Carried.{Carries, Adds};
+ghost use Rattle.polyhedron_edge_face_sums.specs.KeptLogarithms.{useLogarithm, Held, Logged, Sides, Mated};
 use mesh::surface::corner;
 use newtonian::Field;
 use newtonian::Newtonian;
@@ -43,7 +44,7 @@ pub struct Running {
 }
 
 // Face k.
-pub fn triangle_of(verts: &[f64], faces: &[u32], k: usize) -> Triangle
+fn triangle_of(verts: &[f64], faces: &[u32], k: usize) -> Triangle
     requires { ⌜ Body (now verts) (now faces) × (k < faceCount (now faces)) ⌝ }
     ensures { λ r. ⌜ r ≡ triangleOf (now (verts .entry)) (now (faces .entry)) k ⌝ }
 {
@@ -142,7 +143,7 @@ fn add_side(
 }
 
 // The face t and its three sides, of which u is the first edge use, seen from p.
-pub fn add_triangle(
+fn add_triangle(
     keys: &mut [u64; EDGE_LIMIT],
     dyads: &mut [f64; BLOCK],
     mates: &[u32],
@@ -154,8 +155,8 @@ pub fn add_triangle(
 ) -> Running
     requires { ⌜ Sized (now keys) (now dyads) (run .count) × (length (now logs) ≡ length (now mates)) × (u < 3 * maxFaces) ⌝ }
     ensures { λ r. ⌜ Sized (now (keys .exit)) (now (dyads .exit)) (r .count) × (length (now (logs .exit)) ≡ length (now (logs .entry))) ⌝ }
-    ensures { λ r. ⌜ ((s : Sums) (g : ℕ → Float) → Carries s (now (keys .entry)) (now (dyads .entry)) run → Logged g (now (mates .entry)) (now (logs .entry)) u → Sides g p t u →
-        Carries (addTriangle p t s) (now (keys .exit)) (now (dyads .exit)) r × Logged g (now (mates .entry)) (now (logs .exit)) (u + 3)) ⌝ }
+    ensures { λ r. ⌜ ((g : ℕ → Float) → Logged g (now (mates .entry)) (now (logs .entry)) u → Sides g p t u → Logged g (now (mates .entry)) (now (logs .exit)) (u + 3)
+        × ((s : Sums) → Carries s (now (keys .entry)) (now (dyads .entry)) run → Carries (addTriangle p t s) (now (keys .exit)) (now (dyads .exit)) r)) ⌝ }
 {
     let n = t.normal;
     let a = polyhedron_edge_terms::seen(p, t.a);
@@ -175,31 +176,49 @@ pub fn add_triangle(
     add_side(keys, dyads, r2, n, t.ca, l2, c.r)
 }
 
-// All faces.
-fn add_triangles(
+// The n faces from first on. One function for all callers: compiled for each of them, `add_triangle` is slower.
+pub fn add_triangles(
     keys: &mut [u64; EDGE_LIMIT],
     dyads: &mut [f64; BLOCK],
     mates: &[u32],
     logs: &mut [f64],
+    start: Running,
     p: Vector,
     verts: &[f64],
     faces: &[u32],
+    first: usize,
+    n: usize,
 ) -> Running
-    requires { ⌜ Sized (now keys) (now dyads) 0 × Body (now verts) (now faces) × Mated (now faces) (now mates) (now logs) ⌝ }
+    requires { ⌜ Sized (now keys) (now dyads) (start .count) × Body (now verts) (now faces) × (first + n ≤ faceCount (now faces)) ⌝ }
+    requires { ⌜ (length (now logs) ≡ length (now mates)) × Logged (useLogarithm p (now verts) (now faces)) (now mates) (now logs) (3 * first) ⌝ }
     ensures { λ r. ⌜ Sized (now (keys .exit)) (now (dyads .exit)) (r .count) × (length (now (logs .exit)) ≡ length (now (logs .entry))) ⌝ }
-    ensures { λ r. ⌜ Carries (sumsOf p (now (verts .entry)) (now (faces .entry))) (now (keys .exit)) (now (dyads .exit)) r ⌝ }
+    ensures { λ r. ⌜ Adds p (now (verts .entry)) (now (faces .entry)) first n (now (keys .entry)) (now (dyads .entry)) start (now (keys .exit)) (now (dyads .exit)) r ⌝ }
 {
-    let mut run = Running {
-        field: newtonian::zero_field(),
-        count: 0,
-    };
-    let mut k = 0;
-    while k < faces.len() / 3 {
+    let mut run = start;
+    for j in 0..n {
+        let k = first + j;
         let t = triangle_of(verts, faces, k);
         run = add_triangle(keys, dyads, mates, logs, 3 * k, run, p, t);
-        k += 1;
     }
     run
+}
+
+// The field at a station of number i, of which all faces are added.
+pub fn near_field(i: u32, run: Running, dyads: &[f64; BLOCK]) -> Field
+    ensures { λ r. ⌜ ((p : Vector) (v : List Float) (f : List ℕ) (keys : List ℕ) → Carries (sumsOf p v f) keys (now (dyads .entry)) run → answerOf r ≡ edgeFaceSums i p v f) ⌝ }
+{
+    let count = run.count;
+    if EDGE_LIMIT < count {
+        return Field::Refused(Refusal::TooManyEdges(i));
+    }
+    let f = run.field;
+    let g = f.gradient;
+    let t = polyhedron_on_edge::add_infinite(f.hessian, dyads, count);
+    Field::At(Newtonian {
+        potential: f.potential,
+        gradient: g,
+        hessian: polyhedron_edge_terms::symmetric(t),
+    })
 }
 
 // The field at p, which has the number i among the stations. Mates, where they are known, spare half of the logarithms, for
@@ -218,17 +237,22 @@ pub fn edge_face_sums(
 {
     let mut keys = [0u64; EDGE_LIMIT];
     let mut dyads = [0.0; BLOCK];
-    let run = add_triangles(&mut keys, &mut dyads, mates, logs, p, verts, faces);
-    let count = run.count;
-    if EDGE_LIMIT < count {
-        return Field::Refused(Refusal::TooManyEdges(i));
-    }
-    let f = run.field;
-    let g = f.gradient;
-    let t = polyhedron_on_edge::add_infinite(f.hessian, &dyads, count);
-    Field::At(Newtonian {
-        potential: f.potential,
-        gradient: g,
-        hessian: polyhedron_edge_terms::symmetric(t),
-    })
+    let none = Running {
+        field: newtonian::zero_field(),
+        count: 0,
+    };
+    let n = faces.len() / 3;
+    let run = add_triangles(
+        &mut keys,
+        &mut dyads,
+        mates,
+        logs,
+        none,
+        p,
+        verts,
+        faces,
+        0,
+        n,
+    );
+    near_field(i, run, &dyads)
 }

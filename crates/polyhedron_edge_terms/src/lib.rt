@@ -167,11 +167,11 @@ fn sub_times(t: Vector, u: Vector, w: f64) -> Vector
     }
 }
 
-// The field f with the terms of the face in the plane n·r = rho that subtends omega.
-pub fn add_face_terms(n: Vector, rho: f64, omega: f64, f: Newtonian) -> Newtonian
+// The field f with the terms of the face in the plane n·r = rho that subtends omega. d is n nᵀ, made once for many stations.
+pub fn add_face_dyad(d: Hessian, n: Vector, rho: f64, omega: f64, f: Newtonian) -> Newtonian
+    requires { ⌜ d ≡ dyad n n ⌝ }
     ensures { λ r. ⌜ r ≡ addFaceTerms n rho omega f ⌝ }
 {
-    let d = dyad(n, n);
     Newtonian {
         potential: f.potential - 0.5 * rho * rho * omega,
         gradient: add_times(f.gradient, vector_times(n, rho), omega),
@@ -183,12 +183,18 @@ pub fn add_face_terms(n: Vector, rho: f64, omega: f64, f: Newtonian) -> Newtonia
     }
 }
 
+pub fn add_face_terms(n: Vector, rho: f64, omega: f64, f: Newtonian) -> Newtonian
+    ensures { λ r. ⌜ r ≡ addFaceTerms n rho omega f ⌝ }
+{
+    add_face_dyad(dyad(n, n), n, rho, omega, f)
+}
+
 // The field f with the terms of an edge of the face with the normal n: the edge's normal m, its logarithm l, and the offset
-// r of a point on it.
-pub fn add_edge_terms(n: Vector, m: Vector, l: f64, r: Vector, f: Newtonian) -> Newtonian
+// r of a point on it. d is n mᵀ.
+pub fn add_edge_dyad(d: Hessian, n: Vector, m: Vector, l: f64, r: Vector, f: Newtonian) -> Newtonian
+    requires { ⌜ d ≡ dyad n m ⌝ }
     ensures { λ s. ⌜ s ≡ addEdgeTerms n m l r f ⌝ }
 {
-    let d = dyad(n, m);
     let nr = dot(n, r);
     let mr = dot(m, r);
     Newtonian {
@@ -200,6 +206,12 @@ pub fn add_edge_terms(n: Vector, m: Vector, l: f64, r: Vector, f: Newtonian) -> 
             z: add_times(f.hessian.z, d.z, l),
         },
     }
+}
+
+pub fn add_edge_terms(n: Vector, m: Vector, l: f64, r: Vector, f: Newtonian) -> Newtonian
+    ensures { λ s. ⌜ s ≡ addEdgeTerms n m l r f ⌝ }
+{
+    add_edge_dyad(dyad(n, m), n, m, l, r, f)
 }
 
 fn mean(a: f64, b: f64) -> f64

@@ -1,7 +1,8 @@
--- The lists that describe eight faces, with what a station sees of them, add what the faces add. Assumes nothing.
+-- The lists that describe eight faces, with what a station sees of them, add what the faces add. States: `side-dyad`: the dyad of side i; `all-clear`: the sides' logarithms are
+-- finite; `face-is`: what face k adds. Assumes nothing.
 use mathlib.Core.Path.{_≡_, refl, sym, ap, _∙_}
 use mathlib.Core.List.{List}
-use Prim.Native.Nat.{ℕ, zero, suc, _+_, _-_, _<_}
+use Prim.Native.Nat.{ℕ, zero, suc, _+_, _-_, _%_, _<_}
 use native.Mathlib.Omega.{arith}
 use lib.Ieee.{Float}
 use lib.Ieee.Scale.{finite}
@@ -12,15 +13,20 @@ use Rattle.newtonian.specs.declared.Vector.{Vector}
 use Rattle.newtonian.specs.declared.Newtonian.{Newtonian}
 use Rattle.lanes.specs.Lanes.{lane}
 use Rattle.polyhedron_edge_terms.specs.Corners.{seen}
-use Rattle.polyhedron_edge_terms.specs.EdgeTerms.{logarithm, addFaceTerms, addEdgeTerms}
+use Rattle.polyhedron_edge_terms.specs.EdgeTerms.{logarithm, dyad, addFaceTerms, addEdgeTerms}
 use Rattle.polyhedron_edge_terms.specs.SolidAngle.{solidAngle}
 use Rattle.polyhedron_edge_terms.specs.declared.Corner.{Corner}
 use Rattle.polyhedron_edge_face_sums.specs.declared.Triangle.{Triangle}
-use Rattle.polyhedron_faces.specs.Faces.{vectorAt, Describes}
+use Rattle.polyhedron_faces.specs.Faces.{vectorAt, matrixAt, Describes, Dyads}
 use Rattle.polyhedron_logarithms.specs.Sides.{next}
 use Rattle.polyhedron_logarithms.proofs.Terms.{next-low, next-high}
 use Rattle.polyhedron_sight.specs.Sight.{seenAt, Sight}
 use Rattle.polyhedron_eight_faces.specs.EightFaces.{addWhole, Clear, addSideAt, addFaceAt}
+
+-- side i of face k, whose normal is n
+pub side-dyad : {nx ny nz mx my mz : List Float} {ds df : List (List Float)} → Dyads nx ny nz mx my mz ds df
+    → (i k : ℕ) → i < 24 → i % 8 ≡ k → {n : Vector} → n ≡ vectorAt nx ny nz k → matrixAt ds i ≡ dyad n (vectorAt mx my mz i)
+side-dyad d i k h q e = d .of-side i h ∙ rw (q, e)
 
 whole-parts : {n m₀ m₁ m₂ r₀ r₁ r₂ n′ m₀′ m₁′ m₂′ r₀′ r₁′ r₂′ : Vector} {ω l₀ l₁ l₂ ω′ l₀′ l₁′ l₂′ : Float} (f : Newtonian)
     → n ≡ n′ → r₀ ≡ r₀′ → r₁ ≡ r₁′ → r₂ ≡ r₂′ → m₀ ≡ m₀′ → m₁ ≡ m₁′ → m₂ ≡ m₂′ → ω ≡ ω′ → l₀ ≡ l₀′ → l₁ ≡ l₁′ → l₂ ≡ l₂′

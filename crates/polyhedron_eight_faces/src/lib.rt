@@ -3,11 +3,13 @@ ghost use mathlib.Core.Path.{_≡_};
 ghost use mathlib.Core.Bool.{true};
 ghost use Prim.Native.Nat.{ℕ, _<_, _≤_};
 ghost use Rattle.newtonian.specs.Fold.{Fold};
+ghost use Rattle.polyhedron_edge_terms.specs.EdgeTerms.{dyad};
 ghost use Rattle.polyhedron_edge_face_sums.specs.declared.Triangle.{Triangle};
-ghost use Rattle.polyhedron_faces.specs.Faces.{Describes};
+ghost use Rattle.polyhedron_faces.specs.Faces.{vectorAt, matrixAt, Describes, Dyads};
 ghost use Rattle.polyhedron_eight_faces.specs.EightFaces.{addWhole, Clear, addSideAt, addFaceAt};
 use newtonian::Newtonian;
 use newtonian::Vector;
+use polyhedron_faces::matrix_of;
 use polyhedron_faces::vector_24;
 
 // The field f with side i, of a face with the normal n.
@@ -16,6 +18,7 @@ fn add_side(
     mx: &[f64; 24],
     my: &[f64; 24],
     mz: &[f64; 24],
+    ds: &[[f64; 9]; 24],
     x: &[f64; 24],
     y: &[f64; 24],
     z: &[f64; 24],
@@ -23,12 +26,13 @@ fn add_side(
     i: usize,
     f: Newtonian,
 ) -> Newtonian
-    requires { ⌜ i < 24 ⌝ }
+    requires { ⌜ (i < 24) × (matrixAt (now ds) i ≡ dyad n (vectorAt (now mx) (now my) (now mz) i)) ⌝ }
     ensures { λ r. ⌜ r ≡ addSideAt (now (mx .entry)) (now (my .entry)) (now (mz .entry)) (now (x .entry)) (now (y .entry)) (now (z .entry)) (now (log .entry)) n i f ⌝ }
 {
     let l = log[i];
     let m = vector_24(mx, my, mz, i);
-    polyhedron_edge_terms::add_edge_terms(n, m, l, vector_24(x, y, z, i), f)
+    let d = matrix_of(ds[i]);
+    polyhedron_edge_terms::add_edge_dyad(d, n, m, l, vector_24(x, y, z, i), f)
 }
 
 // The field f with face k and its sides.
@@ -39,6 +43,8 @@ fn add_face(
     mx: &[f64; 24],
     my: &[f64; 24],
     mz: &[f64; 24],
+    ds: &[[f64; 9]; 24],
+    df: &[[f64; 9]; 8],
     x: &[f64; 24],
     y: &[f64; 24],
     z: &[f64; 24],
@@ -48,16 +54,17 @@ fn add_face(
     f: Newtonian,
 ) -> Newtonian
     requires { ⌜ k < 8 ⌝ }
+    requires { ⌜ Dyads (now nx) (now ny) (now nz) (now mx) (now my) (now mz) (now ds) (now df) ⌝ }
     ensures { λ r. ⌜ r ≡ addFaceAt (now (mx .entry)) (now (my .entry)) (now (mz .entry)) (now (x .entry)) (now (y .entry)) (now (z .entry)) (now (log .entry))
         (now (nx .entry)) (now (ny .entry)) (now (nz .entry)) (now (omega .entry)) k f ⌝ }
 {
     let w = omega[k];
     let n = polyhedron_faces::vector_8(nx, ny, nz, k);
     let rho = newtonian::dot(n, vector_24(x, y, z, k));
-    let face = polyhedron_edge_terms::add_face_terms(n, rho, w, f);
-    let ab = add_side(n, mx, my, mz, x, y, z, log, k, face);
-    let bc = add_side(n, mx, my, mz, x, y, z, log, 8 + k, ab);
-    add_side(n, mx, my, mz, x, y, z, log, 16 + k, bc)
+    let face = polyhedron_edge_terms::add_face_dyad(matrix_of(df[k]), n, rho, w, f);
+    let ab = add_side(n, mx, my, mz, ds, x, y, z, log, k, face);
+    let bc = add_side(n, mx, my, mz, ds, x, y, z, log, 8 + k, ab);
+    add_side(n, mx, my, mz, ds, x, y, z, log, 16 + k, bc)
 }
 
 // The field f with the first `count` faces, in order.
@@ -68,6 +75,8 @@ fn add_faces(
     mx: &[f64; 24],
     my: &[f64; 24],
     mz: &[f64; 24],
+    ds: &[[f64; 9]; 24],
+    df: &[[f64; 9]; 8],
     x: &[f64; 24],
     y: &[f64; 24],
     z: &[f64; 24],
@@ -77,12 +86,13 @@ fn add_faces(
     f: Newtonian,
 ) -> Newtonian
     requires { ⌜ count ≤ 8 ⌝ }
+    requires { ⌜ Dyads (now nx) (now ny) (now nz) (now mx) (now my) (now mz) (now ds) (now df) ⌝ }
     ensures { λ r. ⌜ r ≡ Fold count (addFaceAt (now (mx .entry)) (now (my .entry)) (now (mz .entry)) (now (x .entry)) (now (y .entry)) (now (z .entry)) (now (log .entry))
         (now (nx .entry)) (now (ny .entry)) (now (nz .entry)) (now (omega .entry))) f ⌝ }
 {
     let mut sums = f;
     for k in 0..count {
-        sums = add_face(nx, ny, nz, mx, my, mz, x, y, z, log, omega, k, sums);
+        sums = add_face(nx, ny, nz, mx, my, mz, ds, df, x, y, z, log, omega, k, sums);
     }
     sums
 }
@@ -105,11 +115,14 @@ pub fn add_block(
     mx: &[f64; 24],
     my: &[f64; 24],
     mz: &[f64; 24],
+    ds: &[[f64; 9]; 24],
+    df: &[[f64; 9]; 8],
     e: &[f64; 24],
     count: usize,
     f: Newtonian,
 ) -> Added
     requires { ⌜ count ≤ 8 ⌝ }
+    requires { ⌜ Dyads (now nx) (now ny) (now nz) (now mx) (now my) (now mz) (now ds) (now df) ⌝ }
     ensures { λ r. ⌜ (r .clear ≡ true → (t : ℕ → Triangle) → Describes t (now (cx .entry)) (now (cy .entry)) (now (cz .entry)) (now (nx .entry)) (now (ny .entry)) (now (nz .entry))
         (now (mx .entry)) (now (my .entry)) (now (mz .entry)) (now (e .entry)) →
         (r .field ≡ Fold count (λ k. addWhole p (t k)) f) × ((k : ℕ) → k < 8 → Clear p (t k))) ⌝ }
@@ -131,6 +144,22 @@ pub fn add_block(
         &mut log,
         &mut omega,
     );
-    let field = add_faces(nx, ny, nz, mx, my, mz, &x, &y, &z, &log, &omega, count, f);
+    let field = add_faces(
+        nx,
+        ny,
+        nz,
+        mx,
+        my,
+        mz,
+        ds,
+        df,
+        &x,
+        &y,
+        &z,
+        &log,
+        &omega,
+        count,
+        f,
+    );
     Added { clear, field }
 }

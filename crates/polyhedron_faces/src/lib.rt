@@ -5,8 +5,9 @@ ghost use lib.ListN.{length};
 ghost use Rattle.newtonian.specs.Vectors.{norm, over};
 ghost use Rattle.polyhedron_edge_terms.specs.Corners.{unit};
 ghost use Rattle.lanes.specs.Lanes.{lane, Lanes};
-ghost use Rattle.polyhedron_faces.specs.Faces.{vectorAt};
+ghost use Rattle.polyhedron_faces.specs.Faces.{vectorAt, matrixOf};
 ghost use Rattle.polyhedron_faces.specs.Parts.{Vectors, edgeAt, rawSide, RawSides};
+use newtonian::Hessian;
 use newtonian::Vector;
 use newtonian::cross;
 use newtonian::difference;
@@ -32,6 +33,45 @@ pub fn vector_24(x: &[f64; 24], y: &[f64; 24], z: &[f64; 24], k: usize) -> Vecto
         x: x[k],
         y: y[k],
         z: z[k],
+    }
+}
+
+// A matrix as nine numbers, row by row: an array of these can be lent, one of structs cannot.
+pub fn numbers_of(t: Hessian) -> [f64; 9]
+    ensures { λ r. ⌜ matrixOf r ≡ t ⌝ }
+{
+    [
+        t.x.x,
+        t.x.y,
+        t.x.z,
+        t.y.x,
+        t.y.y,
+        t.y.z,
+        t.z.x,
+        t.z.y,
+        t.z.z,
+    ]
+}
+
+pub fn matrix_of(w: [f64; 9]) -> Hessian
+    ensures { λ r. ⌜ r ≡ matrixOf w ⌝ }
+{
+    Hessian {
+        x: Vector {
+            x: w[0],
+            y: w[1],
+            z: w[2],
+        },
+        y: Vector {
+            x: w[3],
+            y: w[4],
+            z: w[5],
+        },
+        z: Vector {
+            x: w[6],
+            y: w[7],
+            z: w[8],
+        },
     }
 }
 

@@ -1,5 +1,6 @@
 -- The sums of far stations. States: `no-station`, `one-station`, `all-stations`: how a loop over the stations begins, goes on and ends; `no-face`, `one-face`, `more-faces`: how
--- a loop over the faces begins and goes on, by one and by several; `none-far`; `face-added`: the points over a face give what the definition says of the face. Assumes nothing.
+-- a loop over the faces begins and goes on, by one and by several; `none-far`; `same-sums`: two functions that are the same; `face-added`: the points over a face give what the
+-- definition says of the face. Assumes nothing.
 use mathlib.Core.Path.{_≡_, refl, sym, ap, _∙_}
 use mathlib.Core.Bool.{Bool, true, false}
 use mathlib.Core.List.{List, []}
@@ -23,7 +24,8 @@ use Rattle.polyhedron_tetrahedra.specs.declared.Tetrahedron.{Tetrahedron}
 use Rattle.polyhedron_far_points.specs.Tetrahedral.{FirstPoints, pointCount, pointsField}
 use Rattle.lanes.proofs.Folds.{fold-add}
 use Rattle.polyhedron_far_points.proofs.Pointed.{points-field}
-use Rattle.polyhedron_far.specs.Far.{placeAt, sumsAt, IsFar, FarSums}
+use Rattle.polyhedron_far_lanes.specs.EightFields.{placeAt}
+use Rattle.polyhedron_far.specs.Far.{sumsAt, IsFar, FarSums}
 
 -- the stations below j have had their turn
 pub record Upto (near : List Bool) (g : ℕ → List Pair → List Pair) (before : List (List Pair)) (j : ℕ) (after : List (List Pair)) : Type 0 where
@@ -51,6 +53,9 @@ module _ {near : List Bool} {g : ℕ → List Pair → List Pair} where
 
   pub none-far : {a : List (List Pair)} → length a ≡ 8 → ((i : ℕ) → i < 8 → getD near i false ≡ true) → FarSums near g a a
   none-far e n = record { size = e; at = λ i l h. absurd (true≢false (sym (n i l) ∙ h)) }
+
+  pub same-sums : {h : ℕ → List Pair → List Pair} {a b : List (List Pair)} → ((i : ℕ) → i < 8 → (s : List Pair) → g i s ≡ h i s) → FarSums near g a b → FarSums near h a b
+  same-sums {h} {a} e f = record { size = f .size; at = λ i l n. f .at i l n ∙ e i l (sumsAt a i) }
 
 module _ {near : List Bool} (h : ℕ → ℕ → List Pair → List Pair) where
   pub no-face : {a : List (List Pair)} → length a ≡ 8 → FarSums near (λ i. Fold 0 (h i)) a a

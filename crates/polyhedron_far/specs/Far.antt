@@ -3,14 +3,8 @@ use mathlib.Core.Path.{_≡_}
 use mathlib.Core.Bool.{Bool, false}
 use mathlib.Core.List.{List, []}
 use Prim.Native.Nat.{ℕ, _<_}
-use lib.Ieee.{nan}
 use lib.ListN.{length, getD}
-use Rattle.newtonian.specs.declared.Vector.{Vector}
 use Rattle.polyhedron_neumaier.specs.declared.Pair.{Pair}
-
--- station i's place
-abbrev pub placeAt : List Vector → ℕ → Vector
-placeAt places i = getD places i (record { x = nan; y = nan; z = nan })
 
 -- a far station is one that is not near
 abbrev pub IsFar : List Bool → ℕ → Type 0

@@ -19,7 +19,11 @@ ghost use Rattle.polyhedron_neumaier.specs.Neumaier.{addTerms, noSums};
 ghost use Rattle.polyhedron_neumaier.specs.declared.Pair.{Pair};
 ghost use Rattle.polyhedron_tetrahedra.specs.Tetrahedra.{mappedRule, addTetrahedron, tetrahedra};
 ghost use Rattle.polyhedron_far_points.specs.Tetrahedral.{Room, pointsField};
-ghost use Rattle.polyhedron_far.specs.Far.{placeAt, sumsAt, FarSums};
+ghost use Rattle.polyhedron_far_lanes.specs.EightFields.{placeAt};
+ghost use Rattle.polyhedron_far.specs.Far.{sumsAt, FarSums};
+
+// From so many far stations on, lanes for all eight cost less than the far ones one by one.
+const MANY: usize = 8;
 
 // The sums of a block before the first face.
 pub fn no_far_sums() -> [[Pair; FIELD_SIZE]; 8]
@@ -29,22 +33,25 @@ pub fn no_far_sums() -> [[Pair; FIELD_SIZE]; 8]
     [one; 8]
 }
 
-// The field of a far station, from its sums over all faces.
-pub fn far_field(sums: [Pair; FIELD_SIZE]) -> Newtonian
-    ensures { λ r. ⌜ ((p a : Vector) (v : List Float) (f : List ℕ) → sums ≡ Fold (faceCount f) (addTetrahedron p a v f) noSums → r ≡ tetrahedra p a v f) ⌝ }
+// 1 for a far station.
+fn one_if_far(near: bool) -> usize
+    ensures { λ r. ⌜ (r ≤ 1) × (r ≡ 0 → near ≡ true) ⌝ }
 {
-    polyhedron_neumaier::totals(sums)
+    if near {
+        return 0;
+    }
+    1
 }
 
-// Whether every station of the block is near.
-fn all_near(near: [bool; 8]) -> bool
-    ensures { λ r. ⌜ (r ≡ true → (i : ℕ) → i < 8 → getD near i false ≡ true) ⌝ }
+// How many stations of the block are far.
+fn far_count(near: [bool; 8]) -> usize
+    ensures { λ r. ⌜ (r ≡ 0 → (i : ℕ) → i < 8 → getD near i false ≡ true) ⌝ }
 {
-    let mut all = true;
+    let mut n = 0;
     for i in 0..8usize {
-        all = all & near[i];
+        n += one_if_far(near[i]);
     }
-    all
+    n
 }
 
 // The points' field at p, added to a station's sums, if it is far.
@@ -87,10 +94,64 @@ fn add_one_by_one(
     out
 }
 
+// A field, added to a station's sums, if it is far.
+fn add_field_if_far(near: bool, f: Newtonian, sums: [Pair; FIELD_SIZE]) -> [Pair; FIELD_SIZE]
+    ensures { λ r. ⌜ (near ≡ false → r ≡ addTerms sums (fieldNumbers f)) ⌝ }
+{
+    if near {
+        return sums;
+    }
+    polyhedron_neumaier::add_terms(sums, newtonian::field_numbers(f))
+}
+
+// The points' fields, of all eight stations side by side.
+fn add_by_lanes(
+    near: [bool; 8],
+    places: [Vector; 8],
+    x: &[f64; POINT_COUNT],
+    y: &[f64; POINT_COUNT],
+    z: &[f64; POINT_COUNT],
+    w: &[f64; POINT_COUNT],
+    sums: [[Pair; FIELD_SIZE]; 8],
+) -> [[Pair; FIELD_SIZE]; 8]
+    requires { ⌜ length sums ≡ 8 ⌝ }
+    ensures { λ r. ⌜ FarSums near (λ (i : ℕ) (s : List Pair). addTerms s (fieldNumbers (pointsField (placeAt places i) (now (x .entry)) (now (y .entry)) (now (z .entry)) (now (w .entry))))) sums r ⌝ }
+{
+    let f = polyhedron_far_lanes::eight_fields(places, x, y, z, w);
+    let mut out = sums;
+    for i in 0..8usize {
+        let v = polyhedron_far_lanes::field_in(&f, i);
+        let next = add_field_if_far(near[i], v, out[i]);
+        out[i] = next;
+    }
+    out
+}
+
+// The points' fields, by lanes where many of the eight stations are far.
+fn add_points(
+    near: [bool; 8],
+    places: [Vector; 8],
+    many: bool,
+    x: &[f64; POINT_COUNT],
+    y: &[f64; POINT_COUNT],
+    z: &[f64; POINT_COUNT],
+    w: &[f64; POINT_COUNT],
+    sums: [[Pair; FIELD_SIZE]; 8],
+) -> [[Pair; FIELD_SIZE]; 8]
+    requires { ⌜ length sums ≡ 8 ⌝ }
+    ensures { λ r. ⌜ FarSums near (λ (i : ℕ) (s : List Pair). addTerms s (fieldNumbers (pointsField (placeAt places i) (now (x .entry)) (now (y .entry)) (now (z .entry)) (now (w .entry))))) sums r ⌝ }
+{
+    if many {
+        return add_by_lanes(near, places, x, y, z, w, sums);
+    }
+    add_one_by_one(near, places, x, y, z, w, sums)
+}
+
 // The tetrahedron over face k, added to the sums of each far station.
 fn add_far_face(
     near: [bool; 8],
     places: [Vector; 8],
+    many: bool,
     apex: Vector,
     verts: &[f64],
     faces: &[u32],
@@ -114,13 +175,14 @@ fn add_far_face(
     let d = mesh::surface::corner(verts, faces, k, 2);
     let s = polyhedron_tetrahedra::over_face(apex, b, c, d);
     polyhedron_far_points::points(apex, s, nodes, weights, x, y, z, w);
-    add_one_by_one(near, places, x, y, z, w, sums)
+    add_points(near, places, many, x, y, z, w, sums)
 }
 
 // The tetrahedra over the n faces from first on, added to the sums of each far station.
 fn add_tetrahedra(
     near: [bool; 8],
     places: [Vector; 8],
+    many: bool,
     apex: Vector,
     verts: &[f64],
     faces: &[u32],
@@ -143,6 +205,7 @@ fn add_tetrahedra(
         let next = add_far_face(
             near,
             places,
+            many,
             apex,
             verts,
             faces,
@@ -160,7 +223,7 @@ fn add_tetrahedra(
     out
 }
 
-// The same; where no station of the block is far, no points are made. The fields of the far ones are `far_field` of their sums after all faces.
+// The same; where no station of the block is far, no points are made.
 pub fn add_far_faces(
     near: [bool; 8],
     places: [Vector; 8],
@@ -174,8 +237,19 @@ pub fn add_far_faces(
     requires { ⌜ Body (now verts) (now faces) × (first + n ≤ faceCount (now faces)) × (length sums ≡ 8) ⌝ }
     ensures { λ r. ⌜ FarSums near (λ (i : ℕ). Fold n (λ (k : ℕ). addTetrahedron (placeAt places i) apex (now (verts .entry)) (now (faces .entry)) (first + k))) sums r ⌝ }
 {
-    if all_near(near) {
+    let count = far_count(near);
+    if count == 0 {
         return sums;
     }
-    add_tetrahedra(near, places, apex, verts, faces, first, n, sums)
+    add_tetrahedra(
+        near,
+        places,
+        MANY <= count,
+        apex,
+        verts,
+        faces,
+        first,
+        n,
+        sums,
+    )
 }

@@ -12,6 +12,10 @@ use Rattle.polyhedron_faces.specs.Faces.{vectorAt}
 unfoldable pub faceIn : ℕ → ℕ → ℕ → ℕ
 faceIn first n k = cond (ltb (first + k) n) (first + k) (n - 1)
 
+-- groups of fewer faces are not made
+abbrev pub fewest : ℕ
+fewest = 5
+
 -- of corners in arrays: the normal of the face in lane k, not yet of length 1
 abbrev pub rawNormal : List Float → List Float → List Float → ℕ → Vector
 rawNormal cx cy cz k =

@@ -1,18 +1,21 @@
 // Eight faces of a mesh side by side, from a face on: corner or side j of the face in lane k stands at 8 j + k.
 ghost use mathlib.Core.Path.{_≡_};
-ghost use Prim.Native.Nat.{ℕ, _/_, _%_, _≤_, _<_};
+ghost use Prim.Native.Nat.{ℕ, _+_, _/_, _%_, _≤_, _<_};
 ghost use lib.ListN.{length};
 ghost use Rattle.newtonian.specs.Vectors.{over};
 ghost use Rattle.mesh_orders.specs.Edges.{maxFaces};
 ghost use Rattle.mesh.specs.Surface.{Body, corner, faceCount};
 ghost use Rattle.polyhedron_edge_face_sums.specs.EdgeFaceSums.{triangleOf};
 ghost use Rattle.lanes.specs.Lanes.{lane, Lanes};
-ghost use Rattle.polyhedron_faces.specs.Faces.{vectorAt, Sizes, Describes};
+ghost use Rattle.polyhedron_faces.specs.Faces.{vectorAt, matrixAt, faceDyad, sideDyad, Sizes, Describes, Dyads};
 ghost use Rattle.polyhedron_faces.specs.Parts.{Vectors, square};
-ghost use Rattle.polyhedron_group.specs.Group.{faceIn, rawNormal};
+ghost use Rattle.polyhedron_group.specs.Group.{faceIn, fewest, rawNormal};
 use newtonian::cross;
 use newtonian::difference;
 use newtonian::dot;
+use polyhedron_edge_terms::dyad;
+use polyhedron_faces::numbers_of;
+use polyhedron_faces::vector_8;
 use polyhedron_faces::vector_24;
 
 // The face in lane k of the group that begins with the face first, in a mesh of n faces. Past the last face it is that one again, so
@@ -91,12 +94,49 @@ fn units_8(l: &[f64; 8], x: &mut [f64; 8], y: &mut [f64; 8], z: &mut [f64; 8])
     }
 }
 
-// The eight faces from first on, past the last face that one again: their corners in cx, cy, cz, their unit normals in nx, ny, nz, their
-// sides' unit normals in mx, my, mz and the sides' lengths in e.
+// The dyads of the faces' normals.
+fn face_dyads(nx: &[f64; 8], ny: &[f64; 8], nz: &[f64; 8], df: &mut [[f64; 9]; 8])
+    requires { ⌜ length (now df) ≡ 8 ⌝ }
+    ensures { λ _. ⌜ ((k : ℕ) → k < 8 → matrixAt (now (df .exit)) k ≡ faceDyad (now (nx .entry)) (now (ny .entry)) (now (nz .entry)) k) ⌝ }
+{
+    for k in 0..8usize {
+        let n = vector_8(nx, ny, nz, k);
+        df[k] = numbers_of(dyad(n, n));
+    }
+}
+
+// The dyads of each face's normal with those of its sides.
+fn side_dyads(
+    nx: &[f64; 8],
+    ny: &[f64; 8],
+    nz: &[f64; 8],
+    mx: &[f64; 24],
+    my: &[f64; 24],
+    mz: &[f64; 24],
+    ds: &mut [[f64; 9]; 24],
+)
+    requires { ⌜ length (now ds) ≡ 24 ⌝ }
+    ensures { λ _. ⌜ ((i : ℕ) → i < 24 →
+        matrixAt (now (ds .exit)) i ≡ sideDyad (now (nx .entry)) (now (ny .entry)) (now (nz .entry)) (now (mx .entry)) (now (my .entry)) (now (mz .entry)) i) ⌝ }
+{
+    for i in 0..24usize {
+        let n = vector_8(nx, ny, nz, i % 8);
+        let m = vector_24(mx, my, mz, i);
+        ds[i] = numbers_of(dyad(n, m));
+    }
+}
+
+// A group of fewer faces goes face by face: it would cost as much as a whole one.
+pub const FEWEST: usize = 5;
+
+// Eight faces from first on, of which n are to be added; past the last face that one again: their corners in cx, cy, cz, their unit normals in nx, ny, nz, their
+// sides' unit normals in mx, my, mz and the sides' lengths in e. The dyads of the normals, in ds for the sides and in df for the faces,
+// serve all stations. Where n is too few nothing is made.
 pub fn group(
     verts: &[f64],
     faces: &[u32],
     first: usize,
+    n: usize,
     cx: &mut [f64; 24],
     cy: &mut [f64; 24],
     cz: &mut [f64; 24],
@@ -106,13 +146,20 @@ pub fn group(
     mx: &mut [f64; 24],
     my: &mut [f64; 24],
     mz: &mut [f64; 24],
+    ds: &mut [[f64; 9]; 24],
+    df: &mut [[f64; 9]; 8],
     e: &mut [f64; 24],
 )
-    requires { ⌜ Body (now verts) (now faces) × (first < faceCount (now faces)) ⌝ }
+    requires { ⌜ Body (now verts) (now faces) × (first + n ≤ faceCount (now faces)) ⌝ }
     requires { ⌜ Sizes (now cx) (now cy) (now cz) (now nx) (now ny) (now nz) (now mx) (now my) (now mz) (now e) ⌝ }
-    ensures { λ _. ⌜ Describes (λ (k : ℕ). triangleOf (now (verts .entry)) (now (faces .entry)) (faceIn first (faceCount (now (faces .entry))) k))
-        (now (cx .exit)) (now (cy .exit)) (now (cz .exit)) (now (nx .exit)) (now (ny .exit)) (now (nz .exit)) (now (mx .exit)) (now (my .exit)) (now (mz .exit)) (now (e .exit)) ⌝ }
+    requires { ⌜ (length (now ds) ≡ 24) × (length (now df) ≡ 8) ⌝ }
+    ensures { λ _. ⌜ (fewest ≤ n → Describes (λ (k : ℕ). triangleOf (now (verts .entry)) (now (faces .entry)) (faceIn first (faceCount (now (faces .entry))) k))
+        (now (cx .exit)) (now (cy .exit)) (now (cz .exit)) (now (nx .exit)) (now (ny .exit)) (now (nz .exit)) (now (mx .exit)) (now (my .exit)) (now (mz .exit)) (now (e .exit))) ⌝ }
+    ensures { λ _. ⌜ (fewest ≤ n → Dyads (now (nx .exit)) (now (ny .exit)) (now (nz .exit)) (now (mx .exit)) (now (my .exit)) (now (mz .exit)) (now (ds .exit)) (now (df .exit))) ⌝ }
 {
+    if n < FEWEST {
+        return;
+    }
     let mut q = [0.0; 8];
     let mut l = [0.0; 8];
     corners(verts, faces, first, cx, cy, cz);
@@ -120,4 +167,6 @@ pub fn group(
     lanes::roots_8(&q, &mut l);
     units_8(&l, nx, ny, nz);
     polyhedron_faces::sides(cx, cy, cz, nx, ny, nz, mx, my, mz, e);
+    side_dyads(nx, ny, nz, mx, my, mz, ds);
+    face_dyads(nx, ny, nz, df);
 }

@@ -9,7 +9,7 @@ use Rattle.lanes.proofs.Folds.{fold-same}
 use Rattle.newtonian.specs.declared.Newtonian.{Newtonian}
 use Rattle.newtonian.specs.declared.Vector.{Vector}
 use Rattle.mesh.specs.Surface.{faceCount}
-use Rattle.polyhedron_edge_face_sums.specs.Carried.{Carries}
+use Rattle.polyhedron_edge_face_sums.specs.Carried.{Carries, withFaces}
 use Rattle.polyhedron_edge_face_sums.specs.EdgeFaceSums.{Sums, addTriangle, triangleOf}
 use Rattle.polyhedron_edge_face_sums.specs.declared.Running.{Running}
 use Rattle.polyhedron_edge_face_sums.specs.declared.Triangle.{Triangle}
@@ -17,7 +17,6 @@ use Rattle.polyhedron_group.proofs.Places.{within}
 use Rattle.polyhedron_group.specs.Group.{faceIn}
 use Rattle.polyhedron_eight_faces.specs.ClearLaws.{clear-fold}
 use Rattle.polyhedron_eight_faces.specs.EightFaces.{Clear, addWhole}
-use Rattle.polyhedron_group_sums.specs.GroupSums.{withFaces}
 
 module _ (p : Vector) (v : List Float) (f : List ℕ) (first n : ℕ) where
   abbrev t : ℕ → Triangle

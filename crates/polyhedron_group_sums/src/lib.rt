@@ -5,11 +5,12 @@ ghost use Prim.Native.Nat.{ℕ, _+_, _≤_};
 ghost use Rattle.mesh.specs.Surface.{Body, faceCount};
 ghost use Rattle.polyhedron_on_edge.specs.Block.{Sized};
 ghost use Rattle.polyhedron_edge_face_sums.specs.EdgeFaceSums.{triangleOf};
-ghost use Rattle.polyhedron_faces.specs.Faces.{Describes};
-ghost use Rattle.polyhedron_group.specs.Group.{faceIn};
-ghost use Rattle.polyhedron_group_sums.specs.GroupSums.{Adds};
+ghost use Rattle.polyhedron_edge_face_sums.specs.Carried.{Adds};
+ghost use Rattle.polyhedron_faces.specs.Faces.{Describes, Dyads};
+ghost use Rattle.polyhedron_group.specs.Group.{faceIn, fewest};
 use newtonian::Vector;
 use polyhedron_edge_face_sums::Running;
+use polyhedron_group::FEWEST;
 use polyhedron_on_edge::BLOCK;
 use polyhedron_on_edge::EDGE_LIMIT;
 
@@ -28,15 +29,24 @@ fn one_by_one(
     ensures { λ r. ⌜ Sized (now (keys .exit)) (now (dyads .exit)) (r .count) ⌝ }
     ensures { λ r. ⌜ Adds p (now (verts .entry)) (now (faces .entry)) first n (now (keys .entry)) (now (dyads .entry)) run (now (keys .exit)) (now (dyads .exit)) r ⌝ }
 {
-    let mut sums = run;
-    for k in 0..n {
-        let t = polyhedron_edge_face_sums::triangle_of(verts, faces, first + k);
-        sums = polyhedron_blocks::add_if_near(keys, dyads, sums, true, p, t);
-    }
-    sums
+    // No mates are at hand.
+    let mates = [0u32; 1];
+    let mut logs = [0.0; 1];
+    polyhedron_edge_face_sums::add_triangles(
+        keys,
+        dyads,
+        &mates[..0],
+        &mut logs[..0],
+        run,
+        p,
+        verts,
+        faces,
+        first,
+        n,
+    )
 }
 
-// The same by lanes, where no edge passes through the station and no face lies in a plane with it. The faces stand in the arrays.
+// The same by lanes, if the faces are not too few, no edge passes through the station and no face lies in a plane with it. The arrays hold the faces.
 fn add_group(
     keys: &mut [u64; EDGE_LIMIT],
     dyads: &mut [f64; BLOCK],
@@ -55,16 +65,38 @@ fn add_group(
     mx: &[f64; 24],
     my: &[f64; 24],
     mz: &[f64; 24],
+    ds: &[[f64; 9]; 24],
+    df: &[[f64; 9]; 8],
     e: &[f64; 24],
 ) -> Running
     requires { ⌜ Sized (now keys) (now dyads) (run .count) × Body (now verts) (now faces) × (n ≤ 8) × (first + n ≤ faceCount (now faces)) ⌝ }
-    requires { ⌜ Describes (λ (k : ℕ). triangleOf (now verts) (now faces) (faceIn first (faceCount (now faces)) k))
-        (now cx) (now cy) (now cz) (now nx) (now ny) (now nz) (now mx) (now my) (now mz) (now e) ⌝ }
+    requires { ⌜ (fewest ≤ n → Describes (λ (k : ℕ). triangleOf (now verts) (now faces) (faceIn first (faceCount (now faces)) k))
+        (now cx) (now cy) (now cz) (now nx) (now ny) (now nz) (now mx) (now my) (now mz) (now e)) ⌝ }
+    requires { ⌜ (fewest ≤ n → Dyads (now nx) (now ny) (now nz) (now mx) (now my) (now mz) (now ds) (now df)) ⌝ }
     ensures { λ r. ⌜ Sized (now (keys .exit)) (now (dyads .exit)) (r .count) ⌝ }
     ensures { λ r. ⌜ Adds p (now (verts .entry)) (now (faces .entry)) first n (now (keys .entry)) (now (dyads .entry)) run (now (keys .exit)) (now (dyads .exit)) r ⌝ }
 {
+    if n < FEWEST {
+        return one_by_one(keys, dyads, run, p, verts, faces, first, n);
+    }
     let f = run.field;
-    let a = polyhedron_eight_faces::add_block(p, cx, cy, cz, nx, ny, nz, mx, my, mz, e, n, f);
+    let a = polyhedron_eight_faces::add_block(
+        p,
+        cx,
+        cy,
+        cz,
+        nx,
+        ny,
+        nz,
+        mx,
+        my,
+        mz,
+        ds,
+        df,
+        e,
+        n,
+        f,
+    );
     if a.clear {
         let field = a.field;
         return Running {
@@ -95,11 +127,14 @@ pub fn group_if_near(
     mx: &[f64; 24],
     my: &[f64; 24],
     mz: &[f64; 24],
+    ds: &[[f64; 9]; 24],
+    df: &[[f64; 9]; 8],
     e: &[f64; 24],
 ) -> Running
     requires { ⌜ Sized (now keys) (now dyads) (run .count) × Body (now verts) (now faces) × (n ≤ 8) × (first + n ≤ faceCount (now faces)) ⌝ }
-    requires { ⌜ Describes (λ (k : ℕ). triangleOf (now verts) (now faces) (faceIn first (faceCount (now faces)) k))
-        (now cx) (now cy) (now cz) (now nx) (now ny) (now nz) (now mx) (now my) (now mz) (now e) ⌝ }
+    requires { ⌜ (fewest ≤ n → Describes (λ (k : ℕ). triangleOf (now verts) (now faces) (faceIn first (faceCount (now faces)) k))
+        (now cx) (now cy) (now cz) (now nx) (now ny) (now nz) (now mx) (now my) (now mz) (now e)) ⌝ }
+    requires { ⌜ (fewest ≤ n → Dyads (now nx) (now ny) (now nz) (now mx) (now my) (now mz) (now ds) (now df)) ⌝ }
     ensures { λ r. ⌜ Sized (now (keys .exit)) (now (dyads .exit)) (r .count) ⌝ }
     ensures { λ r. ⌜ (near ≡ true →
         Adds p (now (verts .entry)) (now (faces .entry)) first n (now (keys .entry)) (now (dyads .entry)) run (now (keys .exit)) (now (dyads .exit)) r) ⌝ }
@@ -123,6 +158,8 @@ pub fn group_if_near(
             mx,
             my,
             mz,
+            ds,
+            df,
             e,
         );
     }

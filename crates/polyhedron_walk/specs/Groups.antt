@@ -9,7 +9,7 @@ use Rattle.newtonian.specs.declared.Vector.{Vector}
 use Rattle.polyhedron_edge_face_sums.specs.EdgeFaceSums.{Sums}
 use Rattle.polyhedron_edge_face_sums.specs.declared.Running.{Running}
 use Rattle.polyhedron_blocks.specs.Blocks.{CarriesAt, blockSize, noVector}
-use Rattle.polyhedron_group_sums.specs.GroupSums.{withFaces}
+use Rattle.polyhedron_edge_face_sums.specs.Carried.{withFaces}
 
 -- whatever sums the state of a near station holds before, it holds them with the n faces from the face first on after
 abbrev pub BlockAdds : List Bool → List Vector → List Float → List ℕ → ℕ → ℕ → List (List ℕ) → List (List Float) → List Running → List (List ℕ) → List (List Float) → List Running → Type 0

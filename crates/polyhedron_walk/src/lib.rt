@@ -6,18 +6,14 @@ ghost use lib.ListN.{getD};
 ghost use Rattle.mesh.specs.Surface.{Body, faceCount};
 ghost use Rattle.polyhedron_edge_face_sums.specs.EdgeFaceSums.{triangleOf};
 ghost use Rattle.polyhedron_blocks.specs.Blocks.{blockSize, Blocked};
-ghost use Rattle.polyhedron_faces.specs.Faces.{Describes};
-ghost use Rattle.polyhedron_group.specs.Group.{faceIn};
+ghost use Rattle.polyhedron_faces.specs.Faces.{Describes, Dyads};
+ghost use Rattle.polyhedron_group.specs.Group.{faceIn, fewest};
 ghost use Rattle.polyhedron_walk.specs.Groups.{BlockAdds};
 use newtonian::Vector;
 use polyhedron_blocks::STATIONS;
 use polyhedron_edge_face_sums::Running;
-use polyhedron_edge_face_sums::triangle_of;
 use polyhedron_on_edge::BLOCK;
 use polyhedron_on_edge::EDGE_LIMIT;
-
-// A group of fewer faces goes face by face: it would cost as much as a whole one.
-const FEWEST: usize = 5;
 
 // The group, added to the state of each near station of the block.
 fn group_to_block(
@@ -39,11 +35,14 @@ fn group_to_block(
     mx: &[f64; 24],
     my: &[f64; 24],
     mz: &[f64; 24],
+    ds: &[[f64; 9]; 24],
+    df: &[[f64; 9]; 8],
     e: &[f64; 24],
 ) -> [Running; STATIONS]
     requires { ⌜ Blocked (now keys) (now dyads) runs × Body (now verts) (now faces) × (n ≤ 8) × (first + n ≤ faceCount (now faces)) ⌝ }
-    requires { ⌜ Describes (λ (k : ℕ). triangleOf (now verts) (now faces) (faceIn first (faceCount (now faces)) k))
-        (now cx) (now cy) (now cz) (now nx) (now ny) (now nz) (now mx) (now my) (now mz) (now e) ⌝ }
+    requires { ⌜ (fewest ≤ n → Describes (λ (k : ℕ). triangleOf (now verts) (now faces) (faceIn first (faceCount (now faces)) k))
+        (now cx) (now cy) (now cz) (now nx) (now ny) (now nz) (now mx) (now my) (now mz) (now e)) ⌝ }
+    requires { ⌜ (fewest ≤ n → Dyads (now nx) (now ny) (now nz) (now mx) (now my) (now mz) (now ds) (now df)) ⌝ }
     ensures { λ r. ⌜ Blocked (now (keys .exit)) (now (dyads .exit)) r ⌝ }
     ensures { λ r. ⌜ BlockAdds near stations (now (verts .entry)) (now (faces .entry)) first n (now (keys .entry)) (now (dyads .entry)) runs (now (keys .exit)) (now (dyads .exit)) r ⌝ }
 {
@@ -68,34 +67,11 @@ fn group_to_block(
             mx,
             my,
             mz,
+            ds,
+            df,
             e,
         );
         out[j] = r;
-    }
-    out
-}
-
-// The n faces from first on, one by one, each added to the state of each near station of the block.
-fn few_faces(
-    keys: &mut [[u64; EDGE_LIMIT]; STATIONS],
-    dyads: &mut [[f64; BLOCK]; STATIONS],
-    runs: [Running; STATIONS],
-    near: [bool; STATIONS],
-    stations: [Vector; STATIONS],
-    verts: &[f64],
-    faces: &[u32],
-    first: usize,
-    n: usize,
-) -> [Running; STATIONS]
-    requires { ⌜ Blocked (now keys) (now dyads) runs × Body (now verts) (now faces) × (first + n ≤ faceCount (now faces)) ⌝ }
-    ensures { λ r. ⌜ Blocked (now (keys .exit)) (now (dyads .exit)) r ⌝ }
-    ensures { λ r. ⌜ BlockAdds near stations (now (verts .entry)) (now (faces .entry)) first n (now (keys .entry)) (now (dyads .entry)) runs (now (keys .exit)) (now (dyads .exit)) r ⌝ }
-{
-    let mut out = runs;
-    for k in 0..n {
-        let t = triangle_of(verts, faces, first + k);
-        let next = polyhedron_blocks::add_face(keys, dyads, out, near, stations, t);
-        out = next;
     }
     out
 }
@@ -112,7 +88,7 @@ fn one_group(
     first: usize,
     n: usize,
 ) -> [Running; STATIONS]
-    requires { ⌜ Blocked (now keys) (now dyads) runs × Body (now verts) (now faces) × (0 < n) × (n ≤ 8) × (first + n ≤ faceCount (now faces)) ⌝ }
+    requires { ⌜ Blocked (now keys) (now dyads) runs × Body (now verts) (now faces) × (n ≤ 8) × (first + n ≤ faceCount (now faces)) ⌝ }
     ensures { λ r. ⌜ Blocked (now (keys .exit)) (now (dyads .exit)) r ⌝ }
     ensures { λ r. ⌜ BlockAdds near stations (now (verts .entry)) (now (faces .entry)) first n (now (keys .entry)) (now (dyads .entry)) runs (now (keys .exit)) (now (dyads .exit)) r ⌝ }
 {
@@ -125,11 +101,14 @@ fn one_group(
     let mut mx = [0.0; 24];
     let mut my = [0.0; 24];
     let mut mz = [0.0; 24];
+    let mut ds = [[0.0; 9]; 24];
+    let mut df = [[0.0; 9]; 8];
     let mut e = [0.0; 24];
     polyhedron_group::group(
         verts,
         faces,
         first,
+        n,
         &mut cx,
         &mut cy,
         &mut cz,
@@ -139,6 +118,8 @@ fn one_group(
         &mut mx,
         &mut my,
         &mut mz,
+        &mut ds,
+        &mut df,
         &mut e,
     );
     group_to_block(
@@ -160,30 +141,10 @@ fn one_group(
         &mx,
         &my,
         &mz,
+        &ds,
+        &df,
         &e,
     )
-}
-
-// The n faces from first on, added to the state of each near station of the block.
-fn add_faces(
-    keys: &mut [[u64; EDGE_LIMIT]; STATIONS],
-    dyads: &mut [[f64; BLOCK]; STATIONS],
-    runs: [Running; STATIONS],
-    near: [bool; STATIONS],
-    stations: [Vector; STATIONS],
-    verts: &[f64],
-    faces: &[u32],
-    first: usize,
-    n: usize,
-) -> [Running; STATIONS]
-    requires { ⌜ Blocked (now keys) (now dyads) runs × Body (now verts) (now faces) × (n ≤ 8) × (first + n ≤ faceCount (now faces)) ⌝ }
-    ensures { λ r. ⌜ Blocked (now (keys .exit)) (now (dyads .exit)) r ⌝ }
-    ensures { λ r. ⌜ BlockAdds near stations (now (verts .entry)) (now (faces .entry)) first n (now (keys .entry)) (now (dyads .entry)) runs (now (keys .exit)) (now (dyads .exit)) r ⌝ }
-{
-    if n < FEWEST {
-        return few_faces(keys, dyads, runs, near, stations, verts, faces, first, n);
-    }
-    one_group(keys, dyads, runs, near, stations, verts, faces, first, n)
 }
 
 // Whether no station of the block is near.
@@ -217,5 +178,5 @@ pub fn add_near_faces(
     if none_near(near) {
         return runs;
     }
-    add_faces(keys, dyads, runs, near, stations, verts, faces, first, n)
+    one_group(keys, dyads, runs, near, stations, verts, faces, first, n)
 }

@@ -41,7 +41,9 @@ fn block(
         Written a first o (now (fields .entry)) → Stored a (first + n) o e (now (fields .exit))) ⌝ }
 {
     let places = profile_records::places_of(stations, first, n);
-    let near = profile_records::near_of(places, n, c, r);
+    let near = profile_records::near_of(places, n, false, c, r);
+    // Past the last station of a short block there is none, neither near nor far.
+    let not_far = profile_records::near_of(places, n, true, c, r);
     let mut runs = [Running {
         field: newtonian::zero_field(),
         count: 0,
@@ -63,7 +65,7 @@ fn block(
             m,
         );
         runs = nearer;
-        let farther = polyhedron_far::add_far_faces(near, places, c, verts, faces, k, m, sums);
+        let farther = polyhedron_far::add_far_faces(not_far, places, c, verts, faces, k, m, sums);
         sums = farther;
         k += m;
     }

@@ -64,12 +64,18 @@ fn is_near(p: Vector, c: Vector, r: f64) -> bool
     !(roots::root(polyhedron_centroid::squared_distance(p, c)) > 5.0 * r)
 }
 
-// Which of the first n stations of a block are near.
-pub fn near_of(places: [Vector; STATIONS], n: usize, c: Vector, r: f64) -> [bool; STATIONS]
+// Which of the first n stations of a block are near; rest for those past them.
+pub fn near_of(
+    places: [Vector; STATIONS],
+    n: usize,
+    rest: bool,
+    c: Vector,
+    r: f64,
+) -> [bool; STATIONS]
     requires { ⌜ n ≤ blockSize ⌝ }
     ensures { λ q. ⌜ ((j : ℕ) → j < n → getD q j false ≡ isNear (getD places j noVector) c r) ⌝ }
 {
-    let mut out = [false; STATIONS];
+    let mut out = [rest; STATIONS];
     for j in 0..n {
         let b = is_near(places[j], c, r);
         out[j] = b;
@@ -91,7 +97,7 @@ fn station_field(
         (near ≡ true → Carries (sumsOf p v f) keys (now (dyads .entry)) run) → (near ≡ false → sums ≡ farSums p c v f) → answerOf a ≡ polyhedronFrom i p c r v f) ⌝ }
 {
     if near {
-        return polyhedron_blocks::near_field(i, run, dyads);
+        return polyhedron_edge_face_sums::near_field(i, run, dyads);
     }
     Field::At(polyhedron_neumaier::totals(sums))
 }

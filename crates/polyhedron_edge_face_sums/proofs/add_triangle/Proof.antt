@@ -44,7 +44,7 @@ returns c =
     let a = st .args in
     let u = a .u in (
       (c .add-side3 .ensures .0, third .logarithm-of3 .ensures .0 ∙ two .logarithm-of2 .ensures .0 ∙ one .logarithm-of .ensures .0),
-      λ s g h l d.
+      λ g l d.
           let s₁ = seen .before .before .seen .ensures in
           let s₂ = seen .before .seen2 .ensures in
           let s₃ = seen .seen3 .ensures in
@@ -52,16 +52,17 @@ returns c =
           let e₂ = two .logarithm-of2 .ensures .1 g (e₁ .1) (d .bc ∙ between (a .t .bc .length) _ _ _ _ s₂ s₃) in
           let q₂ : u + 1 + 1 ≡ u + 2 = omega arith in
           let e₃ = third .logarithm-of3 .ensures .1 g (subst (λ (n : ℕ). Logged g (now (a .mates)) (two .logarithm-of2 .last .1 .0) n) q₂ (e₂ .1)) (d .ca ∙ between (a .t .ca .length) _ _ _ _ s₃ s₁) in
-          let q₃ : u + 2 + 1 ≡ u + 3 = omega arith in
-          let f = face .add-face-terms in
-          let h₀ :
-          Carries
-          (record { field = addFaceTerms (a .t .normal) (face .before .before .dot .result) (face .before .solid-angle .result) (s .field); edges = s .edges })
-          (now (a .keys)) (now (a .dyads)) (record { field = f .result; count = a .run .count })
-          = record { field = simp (f .ensures, h .field); edges = h .edges } in (
-            simp (← s₁, ← s₂, ← s₃, ← face .before .before .dot .ensures, ← face .before .solid-angle .ensures)
-                (c .add-side3 .ensures .1 _ _ _ (e₃ .0) refl (third .before .before .add-side2 .ensures .1 _ _ _ (e₂ .0) refl (two .before .before .add-side .ensures .1 _ _ _ (e₁ .0) refl h₀))),
+          let q₃ : u + 2 + 1 ≡ u + 3 = omega arith in (
             subst (λ (n : ℕ). Logged g (now (a .mates)) (third .logarithm-of3 .last .1 .0) n) q₃ (e₃ .1),
+            λ s h.
+                let f = face .add-face-terms in
+                let h₀ :
+                Carries
+                (record { field = addFaceTerms (a .t .normal) (face .before .before .dot .result) (face .before .solid-angle .result) (s .field); edges = s .edges })
+                (now (a .keys)) (now (a .dyads)) (record { field = f .result; count = a .run .count })
+                = record { field = simp (f .ensures, h .field); edges = h .edges } in
+                simp (← s₁, ← s₂, ← s₃, ← face .before .before .dot .ensures, ← face .before .solid-angle .ensures)
+                (c .add-side3 .ensures .1 _ _ _ (e₃ .0) refl (third .before .before .add-side2 .ensures .1 _ _ _ (e₂ .0) refl (two .before .before .add-side .ensures .1 _ _ _ (e₁ .0) refl h₀))),
           ),
     )
 

@@ -12,7 +12,7 @@ returns : tie.Need-returns
 returns c = λ e t d.
     let g = c .before .before .before .before .before .before in
     let u = g .before .before .before .before .before .before in
-    let m : u .args .count ≤ 8 = u .pre in
+    let m : u .args .count ≤ 8 = u .pre .0 in
     let s = g .sight .ensures e in
     (c .add-faces .ensures ∙ fold-same (u .args .count) _ _ _ (λ k l f. face-is (u .args .p) t d s k (let n : k < 8 = omega arith in n) f), all-clear (u .args .p) t d s)
 

@@ -9,10 +9,10 @@ use Rattle.polyhedron_eight_faces.proofs.add_faces.Statement.{statement
 use Rattle.polyhedron_eight_faces.proofs.add_faces.Tie as tie
 
 abbrev Inv-loop : tie.InvT-loop
-Inv-loop nx ny nz mx my mz x y z log omega count sums₀ k₀ sums k = (k ≤ count) × (sums ≡ Fold k (addFaceAt mx my mz x y z log nx ny nz omega) sums₀)
+Inv-loop nx ny nz mx my mz ds df x y z log omega count sums₀ k₀ sums k = (k ≤ count) × (sums ≡ Fold k (addFaceAt mx my mz x y z log nx ny nz omega) sums₀)
 
 abbrev μ-loop : tie.MeasureT-loop
-μ-loop nx ny nz mx my mz x y z log omega count sums₀ k₀ sums k = count - k
+μ-loop nx ny nz mx my mz ds df x y z log omega count sums₀ k₀ sums k = count - k
 
 loop-holds : tie.Need-loop-holds Inv-loop μ-loop
 loop-holds c = (search needs, rw fold-none)

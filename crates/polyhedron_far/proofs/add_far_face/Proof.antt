@@ -6,14 +6,14 @@ use Rattle.polyhedron_far.proofs.add_far_face.Statement.{statement}
 use Rattle.polyhedron_far.proofs.add_far_face.Tie as tie
 
 -- the call that makes the points, and where the function begins
-abbrev made : tie.After-add-one-by-one-arg4 → tie.After-points
+abbrev made : tie.After-add-points-arg4 → tie.After-points
 made c = c .before .before .before .before
 
 abbrev start : tie.After-points → tie.Start
 start c = c .before .before .before .before .before .before .before .before .before .before .before
 
-add-one-by-one-requires : tie.Need-add-one-by-one-requires
-add-one-by-one-requires c κs = start (made c) .pre .0 .2
+add-points-requires : tie.Need-add-points-requires
+add-points-requires c κs = start (made c) .pre .0 .2
 
 returns : tie.Need-returns
 returns c =
@@ -23,7 +23,7 @@ returns c =
       m .points .ensures .room,
       face-added (a .places) (a .apex) (now (a .verts)) (now (a .faces)) (a .k)
           (o .before .before .before .corner .ensures) (o .before .before .corner2 .ensures) (o .before .corner3 .ensures) (o .over-face .ensures)
-          (m .points .ensures) (c .add-one-by-one .ensures),
+          (m .points .ensures) (c .add-points .ensures),
     )
 
 pub add-far-face-spec : {M : Type 1} → statement M
@@ -35,5 +35,5 @@ add-far-face-spec =
     (λ c κs. search needs)
     (λ c κs. search needs)
     (λ c κs. search needs)
-    add-one-by-one-requires
+    add-points-requires
     returns)

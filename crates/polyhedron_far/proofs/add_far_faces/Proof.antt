@@ -5,7 +5,7 @@ use Rattle.polyhedron_far.proofs.add_far_faces.Statement.{statement}
 use Rattle.polyhedron_far.proofs.add_far_faces.Tie as tie
 
 returns : tie.Need-returns
-returns c = none-far (c .before .before .before .before .pre .2) (c .before .all-near .ensures (c .if1 .taken))
+returns c = none-far (c .before .before .before .before .pre .2) (c .before .far-count .ensures (c .if1 .taken))
 
 pub add-far-faces-spec : {M : Type 1} → statement M
 add-far-faces-spec =

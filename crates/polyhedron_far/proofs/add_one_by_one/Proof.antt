@@ -7,7 +7,7 @@ use Rattle.newtonian.specs.Vectors.{fieldNumbers}
 use Rattle.polyhedron_neumaier.specs.Neumaier.{addTerms}
 use Rattle.polyhedron_neumaier.specs.declared.Pair.{Pair}
 use Rattle.polyhedron_far_points.specs.Tetrahedral.{pointsField}
-use Rattle.polyhedron_far.specs.Far.{placeAt}
+use Rattle.polyhedron_far_lanes.specs.EightFields.{placeAt}
 use Rattle.polyhedron_far.proofs.Stations.{Upto, all-stations, no-station, one-station}
 use Rattle.polyhedron_far.proofs.add_one_by_one.Statement.{statement}
 use Rattle.polyhedron_far.proofs.add_one_by_one.Tie as tie

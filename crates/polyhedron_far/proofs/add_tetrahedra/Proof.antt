@@ -7,17 +7,18 @@ use denote.Ref.{now}
 use Rattle.newtonian.specs.Fold.{Fold}
 use Rattle.polyhedron_tetrahedra.specs.Tetrahedra.{addTetrahedron}
 use Rattle.polyhedron_far_points.specs.Tetrahedral.{Room}
-use Rattle.polyhedron_far.specs.Far.{FarSums, placeAt}
+use Rattle.polyhedron_far_lanes.specs.EightFields.{placeAt}
+use Rattle.polyhedron_far.specs.Far.{FarSums}
 use Rattle.polyhedron_far.proofs.Stations.{no-face, one-face}
 use Rattle.polyhedron_far.proofs.add_tetrahedra.Statement.{statement}
 use Rattle.polyhedron_far.proofs.add_tetrahedra.Tie as tie
 
 abbrev Inv-loop : tie.InvT-loop
-Inv-loop near places apex verts faces first n nodes weights x₀ y₀ z₀ w₀ out₀ k₀ x y z w out k =
+Inv-loop near places many apex verts faces first n nodes weights x₀ y₀ z₀ w₀ out₀ k₀ x y z w out k =
     (k ≤ n) × Room x y z w × FarSums near (λ (i : ℕ). Fold k (λ (j : ℕ). addTetrahedron (placeAt places i) apex verts faces (first + j))) out₀ out
 
 abbrev μ-loop : tie.MeasureT-loop
-μ-loop near places apex verts faces first n nodes weights x₀ y₀ z₀ w₀ out₀ k₀ x y z w out k = n - k
+μ-loop near places many apex verts faces first n nodes weights x₀ y₀ z₀ w₀ out₀ k₀ x y z w out k = n - k
 
 -- where the function begins
 abbrev start : tie.At-loop Inv-loop μ-loop → tie.Start Inv-loop μ-loop

@@ -8,18 +8,18 @@ use lib.ListN.{getD}
 use Rattle.polyhedron_edge_face_sums.specs.EdgeFaceSums.{Sums}
 use Rattle.polyhedron_blocks.specs.Blocks.{Blocked, CarriesAt, blockSize, noVector}
 use Rattle.polyhedron_blocks.proofs.Turns.{blocked-set, one-more}
-use Rattle.polyhedron_group_sums.specs.GroupSums.{withFaces}
+use Rattle.polyhedron_edge_face_sums.specs.Carried.{withFaces}
 use Rattle.polyhedron_walk.proofs.group_to_block.Statement.{statement}
 use Rattle.polyhedron_walk.proofs.group_to_block.Tie as tie
 
 abbrev Inv-loop : tie.InvT-loop
-Inv-loop keys₀ dyads₀ verts faces first n cx cy cz nx ny nz mx my mz e near stations out₀ j₀ keys dyads out j =
+Inv-loop keys₀ dyads₀ verts faces first n cx cy cz nx ny nz mx my mz ds df e near stations out₀ j₀ keys dyads out j =
     (j ≤ blockSize) × Blocked keys dyads out
     × ((i : ℕ) → i < blockSize → getD near i false ≡ true → (s : Sums) → CarriesAt i s keys₀ dyads₀ out₀ →
     (i < j → CarriesAt i (withFaces (getD stations i noVector) verts faces first n s) keys dyads out) × (j ≤ i → CarriesAt i s keys dyads out))
 
 abbrev μ-loop : tie.MeasureT-loop
-μ-loop keys₀ dyads₀ verts faces first n cx cy cz nx ny nz mx my mz e near stations out₀ j₀ keys dyads out j = blockSize - j
+μ-loop keys₀ dyads₀ verts faces first n cx cy cz nx ny nz mx my mz ds df e near stations out₀ j₀ keys dyads out j = blockSize - j
 
 loop-holds : tie.Need-loop-holds Inv-loop μ-loop
 loop-holds c = (omega arith, c .before .before .pre .0 .0, λ i l m s h. (λ k. absurd (omega arith), λ k. h))

@@ -21,20 +21,20 @@ use Rattle.profile_fields.proofs.block.Statement.{statement}
 use Rattle.profile_fields.proofs.block.Tie as tie
 
 abbrev Inv-loop : tie.InvT-loop
-Inv-loop first n keys₀ dyads₀ stations c r verts faces fields places near runs₀ sums₀ total k₀ keys dyads runs sums k =
+Inv-loop first n keys₀ dyads₀ stations c r verts faces fields places near not-far runs₀ sums₀ total k₀ keys dyads runs sums k =
     (k ≤ faceCount faces) × Blocked keys dyads runs
     × ((i : ℕ) → i < blockSize → getD near i false ≡ true → CarriesAt i (Fold k (λ j. addTriangle (getD places i noVector) (triangleOf verts faces j)) noFaces) keys dyads runs)
     × (length sums ≡ blockSize)
-    × ((i : ℕ) → i < blockSize → getD near i false ≡ false → getD sums i [] ≡ Fold k (addTetrahedron (getD places i noVector) c verts faces) noSums)
+    × ((i : ℕ) → i < blockSize → getD not-far i false ≡ false → getD sums i [] ≡ Fold k (addTetrahedron (getD places i noVector) c verts faces) noSums)
 
 abbrev μ-loop : tie.MeasureT-loop
-μ-loop first n keys₀ dyads₀ stations c r verts faces fields places near runs₀ sums₀ total k₀ keys dyads runs sums k = faceCount faces - k
+μ-loop first n keys₀ dyads₀ stations c r verts faces fields places near not-far runs₀ sums₀ total k₀ keys dyads runs sums k = faceCount faces - k
 
 loop-holds : tie.Need-loop-holds Inv-loop μ-loop
 unfolding Fold
 loop-holds c =
     let z = c .before .zero-field in
-    let st = c .before .before .before .before .before .before .before .before in
+    let st = c .before .before .before .before .before .before .before .before .before in
     let a = st .args in
     let s = c .no-far-sums .ensures in (
       omega arith,
@@ -46,7 +46,7 @@ loop-holds c =
 
 -- where the call begins, and where the loop stands
 abbrev start : tie.At-loop Inv-loop μ-loop → tie.Start Inv-loop μ-loop
-start c = c .before .before .before .before .before .before .before .before .before
+start c = c .before .before .before .before .before .before .before .before .before .before
 
 abbrev turn : tie.After-add-far-faces Inv-loop μ-loop → tie.At-loop Inv-loop μ-loop
 turn c = c .before .before .before .before .before .before
@@ -73,7 +73,7 @@ loop-again c =
     let at = turn c in
     let l = at .loop in
     let a = start at .args in
-    let places = c .before .before .before .before .before .before .before .before .before .before .places-of .result in
+    let places = c .before .before .before .before .before .before .before .before .before .before .before .places-of .result in
     let m = c .before .before .before .before .fewer in
     let near = c .before .add-near-faces in
     let far = c .add-far-faces in
@@ -89,7 +89,7 @@ loop-again c =
     )
 
 store-requires : tie.Need-store-requires Inv-loop μ-loop
-store-requires c κs = let p = c .before .before .before .before .before .before .before .before .before .before .before .before .pre .1 in (p .0, p .2, p .3)
+store-requires c κs = let p = c .before .before .before .before .before .before .before .before .before .before .before .before .before .pre .1 in (p .0, p .2, p .3)
 
 returns : tie.Need-returns Inv-loop μ-loop
 unfolding sumsOf
@@ -98,18 +98,19 @@ returns c =
     let at = c .before .before .before .before .before .before in
     let l = at .loop in
     let a = start at .args in
-    let places = at .before .before .before .before .places-of in
-    let near = at .before .before .before .near-of in
+    let places = at .before .before .before .before .before .places-of in
+    let near = at .before .before .before .before .near-of in
+    let not-far = at .before .before .before .near-of2 in
     let v = now (a .verts) in
     let f = now (a .faces) in
-    let e : l .k ≡ faceCount f = omega arith in (
+    let e : l .k ≡ faceCount f = omega (arith, l .inv .0, c .before .before .before .before .before .loop-test .left) in (
       (room-again _ _ _ (l .inv .1), stored .ensures .0),
       λ b o q h.
           stored .ensures .1 (places .result) (a .c) (a .r) v f (l .keys) b o
           (record {
             nears = near .ensures;
             near-sums = λ j m t. rw (← e) (l .inv .2 j m t);
-            far-sums = λ j m t. rw (← e) (l .inv .4 j (omega (arith, start at .pre .1 .0)) t);
+            far-sums = λ j m t. rw (← e) (l .inv .4 j (omega (arith, start at .pre .1 .0)) (not-far .ensures j m ∙ sym (near .ensures j m) ∙ t));
           })
           (λ j m. q (a .first + j) (omega arith) ∙ ap (λ (p : Vector). polyhedronFrom (a .first + j) p (a .c) (a .r) v f) (sym (places .ensures j m)))
           h,
@@ -121,6 +122,7 @@ block-spec =
     (tie.spec
     Inv-loop
     μ-loop
+    (λ c κs. search needs)
     (λ c κs. search needs)
     (λ c κs. search needs)
     (λ c κs. search needs)

@@ -12,10 +12,10 @@ use Rattle.profile_records.proofs.near_of.Statement.{statement}
 use Rattle.profile_records.proofs.near_of.Tie as tie
 
 abbrev Inv-loop : tie.InvT-loop
-Inv-loop n c r places out₀ j₀ out j = (j ≤ n) × Filled false (λ i. isNear (getD places i noVector) c r) blockSize j out
+Inv-loop n rest c r places out₀ j₀ out j = (j ≤ n) × Filled false (λ i. isNear (getD places i noVector) c r) blockSize j out
 
 abbrev μ-loop : tie.MeasureT-loop
-μ-loop n c r places out₀ j₀ out j = n - j
+μ-loop n rest c r places out₀ j₀ out j = n - j
 
 loop-holds : tie.Need-loop-holds Inv-loop μ-loop
 loop-holds c = (omega arith, filled-none false _ blockSize _ refl)

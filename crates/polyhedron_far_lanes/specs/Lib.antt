@@ -1,0 +1,2 @@
+-- Fields at eight stations side by side.
+pub mod EightFields
