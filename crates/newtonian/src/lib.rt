@@ -1,6 +1,7 @@
 // The field record; a field or its refusal; vectors of three doubles; a mass point's field.
 use refusals::Refusal;
 ghost use mathlib.Core.Path.{_≡_};
+ghost use Rattle.roots.specs.Root.{Root};
 ghost use Rattle.newtonian.specs.Vectors.{difference, dot, norm, cross, over, diagonal, addVectors, addFields, zeroField, vectorWithinLimits, fieldNumbers};
 ghost use Rattle.newtonian.specs.Point.{addPointGradient, addPointRow, addPoint};
 
@@ -160,12 +161,11 @@ fn add_point_row(t: Vector, w: f64, u: f64, d: Vector, e: Vector, q: f64) -> Vec
     }
 }
 
-// The sums f with the terms of a mass point at d from the station, of weight w.
-pub fn add_point(w: f64, d: Vector, f: Newtonian) -> Newtonian
-    ensures { λ r. ⌜ r ≡ addPoint w d f ⌝ }
+// The sums f with the terms of a mass point at d from the station, of weight w. r2 is the square of d and r its length.
+pub fn add_point_at(w: f64, d: Vector, r2: f64, r: f64, f: Newtonian) -> Newtonian
+    requires { ⌜ (r2 ≡ dot d d) × (r ≡ Root r2) ⌝ }
+    ensures { λ s. ⌜ s ≡ addPoint w d f ⌝ }
 {
-    let r2 = dot(d, d);
-    let r = roots::root(r2);
     let r5 = r2 * r2 * r;
     let e = diagonal(r2);
     let ex = e.x;
@@ -180,6 +180,14 @@ pub fn add_point(w: f64, d: Vector, f: Newtonian) -> Newtonian
             z: add_point_row(f.hessian.z, w, d.z, d, ez, r5),
         },
     }
+}
+
+pub fn add_point(w: f64, d: Vector, f: Newtonian) -> Newtonian
+    ensures { λ r. ⌜ r ≡ addPoint w d f ⌝ }
+{
+    let r2 = dot(d, d);
+    let r = roots::root(r2);
+    add_point_at(w, d, r2, r, f)
 }
 
 // Refusal 3's test of a vector.

@@ -1,6 +1,6 @@
 -- One station's lanes. States: `put-here`, `put-there`: what a put field changes, and what not; `no-fields`, `one-field`, `all-fields`: how a loop over the stations begins,
--- goes on and ends; `zero-fields`; `term-is`: `addPoint` of a known square and length. Assumes nothing.
-use mathlib.Core.Path.{_≡_, refl, ap₂, _∙_}
+-- goes on and ends; `zero-fields`. Assumes nothing.
+use mathlib.Core.Path.{_≡_, refl, _∙_}
 use mathlib.Core.List.{List}
 use mathlib.Core.Logic.{⊎-elim}
 use Prim.Native.Nat.{ℕ, zero, suc, _+_, _*_, _≤_, _<_}
@@ -12,14 +12,11 @@ use lib.ListN.{length, getD, length-set, replicate, getD-replicate}
 use lib.Seq.{getD-set-same, getD-set-other}
 use Rattle.doubles.specs.Constants.{0·0}
 use Rattle.lists.proofs.Numbers.{same?}
-use Rattle.roots.specs.Root.{Root}
 use Rattle.newtonian.specs.Fold.{Fold}
-use Rattle.newtonian.specs.Vectors.{diagonal, dot, fieldNumbers, fieldSize, zeroField}
-use Rattle.newtonian.specs.Point.{addPoint}
+use Rattle.newtonian.specs.Vectors.{fieldNumbers, fieldSize, zeroField}
 use Rattle.newtonian.specs.declared.Newtonian.{Newtonian}
-use Rattle.newtonian.specs.declared.Vector.{Vector}
 use Rattle.lanes.specs.Lanes.{lane}
-use Rattle.polyhedron_far_lanes.specs.EightFields.{addPointOf, fieldAt, Fields, laneOf, put, putNumber}
+use Rattle.polyhedron_far_lanes.specs.EightFields.{fieldAt, Fields, laneOf, put, putNumber}
 
 lane-is : (q k : ℕ) → laneOf q k ≡ 8 * q + k
 lane-is zero k = omega arith
@@ -126,10 +123,3 @@ zero-fields = record {
         g (96 + k) (omega arith),
       );
 }
-
-of-square : (w : Float) (d : Vector) (r² r : Float) (f : Newtonian) → r² ≡ dot d d → r ≡ Root r² → addPointOf w d r² r f ≡ addPoint w d f
-unfolding addPoint diagonal
-of-square w d r² r f e h = rw (h, e)
-
-pub term-is : (w : Float) (d d' : Vector) (r² r : Float) (f f' : Newtonian) → d ≡ d' → r² ≡ dot d' d' → r ≡ Root r² → f ≡ f' → addPointOf w d r² r f ≡ addPoint w d' f'
-term-is w d d' r² r f f' a e h b = ap₂ (λ (x : Vector) (y : Newtonian). addPointOf w x r² r y) a b ∙ of-square w d' r² r f' e h

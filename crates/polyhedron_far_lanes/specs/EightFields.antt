@@ -4,8 +4,6 @@ use mathlib.Core.List.{List}
 use Prim.Native.Nat.{ℕ, zero, suc, _+_, _*_, _<_}
 use lib.Ieee.{Float, nan}
 use lib.ListN.{length, getD, set}
-use Rattle.doubles.specs.Rounded.{_⊕_, _⊖_, _⊗_, _⊘_}
-use Rattle.doubles.specs.Constants.{0·0, 3·0}
 use Rattle.newtonian.specs.Fold.{Fold}
 use Rattle.newtonian.specs.Vectors.{difference, dot, fieldNumbers, fieldSize}
 use Rattle.newtonian.specs.declared.Vector.{Vector}
@@ -53,34 +51,6 @@ put k v f = Fold fieldSize (putNumber k v) f
 -- lanes o to o + 7 of q are the squared distances of the point u from the stations at px, py, pz
 pub record Squares (px py pz : List Float) (u : Vector) (o : ℕ) (q : List Float) : Type 0 where
   pub at : (k : ℕ) → k < 8 → lane q (o + k) ≡ dot (difference u (pointAt px py pz k)) (difference u (pointAt px py pz k))
-
--- `addPoint`, of the square r² and the length r of d
-abbrev pub addPointOf : Float → Vector → Float → Float → Newtonian → Newtonian
-addPointOf w d r² r f = record {
-  potential = f .potential ⊕ w ⊘ r;
-  gradient = record {
-    x = f .gradient .x ⊕ w ⊗ d .x ⊘ (r² ⊗ r);
-    y = f .gradient .y ⊕ w ⊗ d .y ⊘ (r² ⊗ r);
-    z = f .gradient .z ⊕ w ⊗ d .z ⊘ (r² ⊗ r);
-  };
-  hessian = record {
-    x = record {
-      x = f .hessian .x .x ⊕ w ⊗ (3·0 ⊗ d .x ⊗ d .x ⊖ r²) ⊘ (r² ⊗ r² ⊗ r);
-      y = f .hessian .x .y ⊕ w ⊗ (3·0 ⊗ d .x ⊗ d .y ⊖ 0·0) ⊘ (r² ⊗ r² ⊗ r);
-      z = f .hessian .x .z ⊕ w ⊗ (3·0 ⊗ d .x ⊗ d .z ⊖ 0·0) ⊘ (r² ⊗ r² ⊗ r);
-    };
-    y = record {
-      x = f .hessian .y .x ⊕ w ⊗ (3·0 ⊗ d .y ⊗ d .x ⊖ 0·0) ⊘ (r² ⊗ r² ⊗ r);
-      y = f .hessian .y .y ⊕ w ⊗ (3·0 ⊗ d .y ⊗ d .y ⊖ r²) ⊘ (r² ⊗ r² ⊗ r);
-      z = f .hessian .y .z ⊕ w ⊗ (3·0 ⊗ d .y ⊗ d .z ⊖ 0·0) ⊘ (r² ⊗ r² ⊗ r);
-    };
-    z = record {
-      x = f .hessian .z .x ⊕ w ⊗ (3·0 ⊗ d .z ⊗ d .x ⊖ 0·0) ⊘ (r² ⊗ r² ⊗ r);
-      y = f .hessian .z .y ⊕ w ⊗ (3·0 ⊗ d .z ⊗ d .y ⊖ 0·0) ⊘ (r² ⊗ r² ⊗ r);
-      z = f .hessian .z .z ⊕ w ⊗ (3·0 ⊗ d .z ⊗ d .z ⊖ r²) ⊘ (r² ⊗ r² ⊗ r);
-    };
-  };
-}
 
 -- the points n, n + 1 and n + 2, each added by the step h
 abbrev pub threeSteps : (ℕ → Newtonian → Newtonian) → ℕ → Newtonian → Newtonian

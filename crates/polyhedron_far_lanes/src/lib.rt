@@ -12,7 +12,7 @@ ghost use Rattle.newtonian.specs.Vectors.{difference, zeroField};
 ghost use Rattle.newtonian.specs.Point.{addPoint};
 ghost use Rattle.lanes.specs.Lanes.{lane, Lanes};
 ghost use Rattle.polyhedron_far_points.specs.Tetrahedral.{pointCount, pointAt, pointStep, pointsField};
-ghost use Rattle.polyhedron_far_lanes.specs.EightFields.{placeAt, fieldAt, Fields, put, Squares, addPointOf, threeSteps};
+ghost use Rattle.polyhedron_far_lanes.specs.EightFields.{placeAt, fieldAt, Fields, put, Squares, threeSteps};
 
 // Station k's field.
 pub fn field_in(f: &[f64; 104], k: usize) -> Newtonian
@@ -122,39 +122,6 @@ fn squares(u: Vector, px: &[f64; 8], py: &[f64; 8], pz: &[f64; 8], o: usize, q: 
     }
 }
 
-// `newtonian::add_point`, of the square r2 and the length r of d.
-fn add_point_of(w: f64, d: Vector, r2: f64, r: f64, f: Newtonian) -> Newtonian
-    ensures { λ v. ⌜ v ≡ addPointOf w d r2 r f ⌝ }
-{
-    let r3 = r2 * r;
-    let r5 = r2 * r2 * r;
-    Newtonian {
-        potential: f.potential + w / r,
-        gradient: Vector {
-            x: f.gradient.x + w * d.x / r3,
-            y: f.gradient.y + w * d.y / r3,
-            z: f.gradient.z + w * d.z / r3,
-        },
-        hessian: Hessian {
-            x: Vector {
-                x: f.hessian.x.x + w * (3.0 * d.x * d.x - r2) / r5,
-                y: f.hessian.x.y + w * (3.0 * d.x * d.y - 0.0) / r5,
-                z: f.hessian.x.z + w * (3.0 * d.x * d.z - 0.0) / r5,
-            },
-            y: Vector {
-                x: f.hessian.y.x + w * (3.0 * d.y * d.x - 0.0) / r5,
-                y: f.hessian.y.y + w * (3.0 * d.y * d.y - r2) / r5,
-                z: f.hessian.y.z + w * (3.0 * d.y * d.z - 0.0) / r5,
-            },
-            z: Vector {
-                x: f.hessian.z.x + w * (3.0 * d.z * d.x - 0.0) / r5,
-                y: f.hessian.z.y + w * (3.0 * d.z * d.y - 0.0) / r5,
-                z: f.hessian.z.z + w * (3.0 * d.z * d.z - r2) / r5,
-            },
-        },
-    }
-}
-
 // The point u of weight w, added to each of the eight fields; q and r hold its squared distances and distances from o on.
 fn add_point(
     w: f64,
@@ -177,7 +144,7 @@ fn add_point(
             y: py[k],
             z: pz[k],
         };
-        let v = add_point_of(w, difference(u, p), q[o + k], r[o + k], field_in(f, k));
+        let v = newtonian::add_point_at(w, difference(u, p), q[o + k], r[o + k], field_in(f, k));
         put(f, k, v);
     }
 }

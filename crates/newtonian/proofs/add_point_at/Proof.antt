@@ -1,8 +1,8 @@
--- `newtonian::add_point` meets its contract. Assumes nothing.
+-- `newtonian::add_point_at` meets its contract. Assumes nothing.
 use borrow.Author.Needs.{needs}
 use Rattle.newtonian.specs.Point.{addPoint}
-use Rattle.newtonian.proofs.add_point.Statement.{statement}
-use Rattle.newtonian.proofs.add_point.Tie as tie
+use Rattle.newtonian.proofs.add_point_at.Statement.{statement}
+use Rattle.newtonian.proofs.add_point_at.Tie as tie
 
 returns : tie.Need-returns
 unfolding addPoint
@@ -15,16 +15,14 @@ returns c =
       c .before .before .add-point-row .ensures,
       b .add-point-gradient .ensures,
       d .diagonal .ensures,
-      d .before .root .ensures,
-      d .before .before .dot .ensures,
+      ← d .before .pre .1,
+      ← d .before .pre .0,
     )
 
-pub add-point-spec : {M : Type 1} → statement M
-add-point-spec =
+pub add-point-at-spec : {M : Type 1} → statement M
+add-point-at-spec =
     tie.close
     (tie.spec
-    (λ c κs. search needs)
-    (λ c κs. search needs)
     (λ c κs. search needs)
     (λ c κs. search needs)
     (λ c κs. search needs)
