@@ -1,14 +1,20 @@
-//! bench [TURNS]: times each call here and in the reference build, on the same inputs in one program, and prints a table: call, inputs, nanoseconds a call,
-//! ratio; then profiles beside the reference and beside single calls; then what checking a sheet takes against the fields of its stations. A time is the best of TURNS turns (default 30), taken in alternation.
+//! bench [TURNS] [--only GROUP,..] [FILE.obj ..]: times each call here and in the reference build, on the same inputs in one program, and prints a table for each group: call,
+//! inputs, the time of a call on both sides, their ratio. A time is the best of TURNS turns (default 30), taken in alternation; what is slow has fewer turns (`Bench::best`).
+//! With files the bodies are theirs, and the groups those over bodies.
 use both::*;
 use geopotential::{bodies, gauss_legendre, special};
 use magnetics::anomaly;
 use physica::ffi;
+use std::cell::RefCell;
 use std::hint::black_box;
 use std::time::Instant;
 
 struct Random(u64);
 impl Random {
+    /// Each group has its own, so that it has the same inputs with other groups and alone.
+    fn new() -> Random {
+        Random(0x2545_f491_4f6c_dd1d)
+    }
     fn unit(&mut self) -> f64 {
         self.0 ^= self.0 << 13;
         self.0 ^= self.0 >> 7;
@@ -23,39 +29,118 @@ impl Random {
     }
 }
 
+/// A turn of a part lasts about this long or more: short parts are repeated.
+const TURN: f64 = 2e-3;
+/// After this many seconds no further turn begins, but for the first three.
+const SECONDS: f64 = 5.0;
+
 struct Bench {
     turns: usize,
 }
 
 impl Bench {
-    /// Both sides on every input; about a millisecond or more to a turn.
-    fn row<I>(&self, call: &str, kind: &str, inputs: &[I], here: impl Fn(&I), reference: impl Fn(&I)) {
-        let round = |f: &dyn Fn(&I), reps: usize| {
+    /// The best time of each part, in seconds, taken in alternation.
+    fn best<const N: usize>(&self, parts: [&dyn Fn(); N]) -> [f64; N] {
+        let start = Instant::now();
+        let round = |f: &dyn Fn(), reps: usize| {
             let t = Instant::now();
-            for _ in 0..reps {
-                for i in black_box(inputs) {
-                    f(i);
-                }
-            }
-            t.elapsed().as_secs_f64()
+            (0..reps).for_each(|_| f());
+            t.elapsed().as_secs_f64() / reps as f64
         };
-        let once = round(&here, 1).max(1e-7);
-        let reps = (2e-3 / once).ceil() as usize;
-        let mut best = [f64::MAX; 2];
-        for _ in 0..self.turns {
-            best[0] = best[0].min(round(&here, reps));
-            best[1] = best[1].min(round(&reference, reps));
+        // a short part's very first call says little of how long it takes
+        let first = parts.map(|f| { let t = round(f, 1); if t < TURN { round(f, 1) } else { t } });
+        let reps = first.map(|t| (TURN / t.max(1e-7)).ceil() as usize);
+        // the calls that tell how long the parts are count as a turn only where all are long enough for one
+        let long = reps == [1; N];
+        let mut best = if long { first } else { [f64::MAX; N] };
+        for turn in long as usize..self.turns.max(1) {
+            if turn >= 3 && start.elapsed().as_secs_f64() > SECONDS {
+                break;
+            }
+            for k in 0..N {
+                best[k] = best[k].min(round(parts[k], reps[k]));
+            }
         }
-        let each = best.map(|t| t * 1e9 / (reps * inputs.len()) as f64);
-        println!("| {call} | {kind} | {} | {} | {:.2} |", nanoseconds(each[0]), nanoseconds(each[1]), each[0] / each[1]);
+        best
+    }
+
+    /// Both sides on every input.
+    fn row<I>(&self, call: &str, kind: &str, inputs: &[I], here: impl Fn(&I), reference: impl Fn(&I)) {
+        // a call through a pointer for each input, lest one side be compiled into its loop
+        let all = |f: &dyn Fn(&I)| black_box(inputs).iter().for_each(|i| f(i));
+        let [a, b] = self.best([&|| all(&here), &|| all(&reference)]);
+        line(call, kind, a / inputs.len() as f64, b / inputs.len() as f64);
     }
 }
 
-fn nanoseconds(t: f64) -> String {
+fn head(group: &str, second: &str) {
+    println!("\n{group}\n\n| call | inputs | this library | {second} | ratio |\n|---|---|---|---|---|");
+}
+
+fn line(call: &str, inputs: &str, here: f64, reference: f64) {
+    let ratio = here / reference;
+    let ratio = if ratio < 0.1 { format!("{ratio:.4}") } else { format!("{ratio:.3}") };
+    println!("| {call} | {inputs} | {} | {} | {ratio} |", time(here), time(reference));
+}
+
+fn time(seconds: f64) -> String {
+    let t = seconds * 1e9;
     if t < 1e4 { format!("{t:.1} ns") } else if t < 1e7 { format!("{:.1} µs", t / 1e3) } else { format!("{:.1} ms", t / 1e6) }
 }
 
-/// A sphere of 2 n² or so triangles.
+// ---- bodies
+
+/// A mesh in the forms that both sides take, and what its stations are counted from.
+struct Body {
+    name: String,
+    mesh: Mesh,
+    verts: Vec<V3>,
+    faces: Vec<[usize; 3]>,
+    centroid: V3,
+    radius: f64,
+}
+
+fn distance(a: V3, b: V3) -> f64 {
+    (0..3).map(|i| (a[i] - b[i]) * (a[i] - b[i])).sum::<f64>().sqrt()
+}
+
+impl Body {
+    fn new(kind: &str, mesh: Mesh) -> Body {
+        let (verts, faces) = (points(&mesh.verts), corners(&mesh.faces));
+        let mut used = vec![false; verts.len()];
+        faces.iter().flatten().for_each(|&i| used[i] = true);
+        let of: Vec<V3> = (0..verts.len()).filter(|&i| used[i]).map(|i| verts[i]).collect();
+        let centroid = core::array::from_fn(|i| of.iter().map(|v| v[i]).sum::<f64>() / of.len() as f64);
+        let radius = of.iter().map(|v| distance(*v, centroid)).fold(0.0, f64::max);
+        Body { name: format!("{} faces, {kind}", faces.len()), mesh, verts, faces, centroid, radius }
+    }
+    fn triangles(&self) -> &[[u32; 3]] {
+        self.mesh.faces.as_chunks::<3>().0
+    }
+    /// In any direction, at a distance between two numbers of radii from the centroid; every second one between those of `odd`.
+    fn stations(&self, r: &mut Random, even: [f64; 2], odd: [f64; 2], n: usize) -> Vec<V3> {
+        let mut at = |[a, b]: [f64; 2]| -> V3 {
+            let (d, z, turn) = (self.radius * r.between(a, b), r.between(-1.0, 1.0), r.between(0.0, std::f64::consts::TAU));
+            let s = (1.0 - z * z).sqrt();
+            let u = [s * turn.cos(), s * turn.sin(), z];
+            core::array::from_fn(|i| self.centroid[i] + d * u[i])
+        };
+        (0..n).map(|i| at(if i % 2 == 0 { even } else { odd })).collect()
+    }
+    /// The reference's field of a mesh that is checked already.
+    fn field(&self, p: V3) -> bodies::Newtonian {
+        if distance(p, self.centroid) > bodies::POLYHEDRON_FAR * self.radius {
+            bodies::tetrahedra(p, self.centroid, &self.verts, &self.faces)
+        } else {
+            bodies::edge_face_sums(p, &self.verts, &self.faces)
+        }
+    }
+}
+
+const NEAR: [f64; 2] = [1.6, 2.6];
+const FAR: [f64; 2] = [6.0, 12.0];
+
+/// A sphere of 4n(n - 1) triangles.
 fn sphere(n: usize) -> Mesh {
     let m = 2 * n;
     let mut v: Vec<V3> = vec![[0.0, 0.0, 1.0]];
@@ -79,20 +164,89 @@ fn sphere(n: usize) -> Mesh {
     Mesh { verts: v.concat(), room: faces.len(), faces }
 }
 
-fn polyhedron(p: &V3, m: &Mesh, work: &std::cell::RefCell<Vec<u32>>) {
+/// The sphere with each vertex moved along its radius; every face is still seen from the middle on its inside.
+fn rough(n: usize) -> Mesh {
+    let (mut m, mut r) = (sphere(n), Random::new());
+    for v in m.verts.chunks_exact_mut(3) {
+        let k = r.between(0.8, 1.2);
+        v.iter_mut().for_each(|x| *x *= k);
+    }
+    m
+}
+
+/// 24, 528 and 32,760 faces, the most below 32,768.
+fn made() -> Vec<Body> {
+    let both = |n| [Body::new("smooth", sphere(n)), Body::new("rough", rough(n))];
+    [3, 12].into_iter().flat_map(both).chain([Body::new("smooth", sphere(91))]).collect()
+}
+
+/// The lines `v x y z` and `f a b c` of a Wavefront OBJ file, where a/b/c stands for its first number; other lines are skipped.
+fn obj(text: &str) -> Result<Mesh, String> {
+    let (mut verts, mut faces) = (vec![], vec![]);
+    for (i, line) in text.lines().enumerate() {
+        let wrong = |what: &str| format!("line {}: {what}", i + 1);
+        let mut words = line.split_whitespace();
+        let kind = words.next();
+        let words: Vec<&str> = words.collect();
+        match kind {
+            Some("v" | "f") if words.len() != 3 => return Err(wrong(&format!("{} words in the place of three", words.len()))),
+            Some("v") => for w in words {
+                verts.push(w.parse::<f64>().map_err(|_| wrong(&format!("{w} is no number")))?);
+            },
+            Some("f") => for w in words {
+                let index = w.split('/').next().unwrap().parse::<u32>().ok().filter(|&k| k > 0);
+                faces.push(index.ok_or_else(|| wrong(&format!("{w} is no vertex, counted from 1")))? - 1);
+            },
+            _ => {}
+        }
+    }
+    Ok(Mesh { room: faces.len(), verts, faces })
+}
+
+/// The bodies of the files that check_mesh accepts; a file that cannot be read ends the program.
+fn read(files: &[String]) -> Vec<Body> {
+    let mut all = vec![];
+    for file in files {
+        let text = std::fs::read_to_string(file).unwrap_or_else(|e| end(&format!("{file}: {e}")));
+        let mesh = obj(&text).unwrap_or_else(|e| end(&format!("{file}: {e}")));
+        let name = std::path::Path::new(file).file_stem().unwrap().to_string_lossy().into_owned();
+        let (n, values) = checked(&mesh, &mut vec![0; mesh.room]);
+        if n == 0 {
+            all.push(Body::new(&format!("real ({name})"), mesh));
+        } else {
+            println!("{file}: {} vertices, {} faces, skipped: check_mesh refuses it by {n}, values {values:?}", mesh.verts.len() / 3, mesh.faces.len() / 3);
+        }
+    }
+    all
+}
+
+fn end(message: &str) -> ! {
+    eprintln!("{message}");
+    std::process::exit(2)
+}
+
+// ---- groups
+
+fn polyhedron(p: &V3, m: &Mesh, work: &RefCell<Vec<u32>>) {
     let (mut out, mut values, mut w) = ([0.0; 13], [0; 2], work.borrow_mut());
     let n = unsafe { ffi::physica_polyhedron(p, m.verts.as_ptr(), m.verts.len(), m.faces.as_ptr(), m.faces.len(), w.as_mut_ptr(), w.len(), &mut out, &mut values) };
     assert_eq!(n, 0);
     black_box(out);
 }
 
-fn check_mesh(m: &Mesh, work: &std::cell::RefCell<Vec<u32>>) {
-    let (mut out, mut values, mut w) = (0.0, [0; 2], work.borrow_mut());
-    assert_eq!(unsafe { ffi::physica_check_mesh(m.verts.as_ptr(), m.verts.len(), m.faces.as_ptr(), m.faces.len(), w.as_mut_ptr(), w.len(), &mut out, &mut values) }, 0);
+fn checked(m: &Mesh, work: &mut [u32]) -> (u32, [u32; 2]) {
+    let (mut out, mut values) = (0.0, [0; 2]);
+    let n = unsafe { ffi::physica_check_mesh(m.verts.as_ptr(), m.verts.len(), m.faces.as_ptr(), m.faces.len(), work.as_mut_ptr(), work.len(), &mut out, &mut values) };
     black_box(out);
+    (n, values)
+}
+
+fn check_mesh(m: &Mesh, work: &RefCell<Vec<u32>>) {
+    assert_eq!(checked(m, &mut work.borrow_mut()).0, 0);
 }
 
 fn integrals(b: &Bench, r: &mut Random) {
+    head("numbers", "reference");
     let one = |n: u32, x: f64| { assert_eq!(n, 0); black_box(x); };
     let lists = |r: &mut Random, n: usize, a: f64, b: f64| -> Vec<Vec<f64>> { (0..256).map(|_| r.list(n, a, b)).collect() };
     let near = lists(r, 4, 0.5, 1.5);
@@ -113,6 +267,7 @@ fn integrals(b: &Bench, r: &mut Random) {
 }
 
 fn prisms(b: &Bench, r: &mut Random) {
+    head("prisms", "reference");
     let mut at = |scale: f64, lo: V3, hi: V3| -> Vec<[V3; 3]> { (0..32).map(|_| [core::array::from_fn(|_| scale * r.between(0.5, 1.0)), lo, hi]).collect() };
     let kinds = [
         ("inside", at(0.9, [-1.0; 3], [1.0; 3])),
@@ -131,24 +286,37 @@ fn prisms(b: &Bench, r: &mut Random) {
     }
 }
 
-fn meshes(b: &Bench, r: &mut Random) {
-    for n in [3, 12, 90] {
-        let m = sphere(n);
-        let (v, f) = (points(&m.verts), corners(&m.faces));
-        let work = std::cell::RefCell::new(vec![0; m.room]);
-        let name = format!("{} faces", f.len());
-        b.row("check_mesh", &name, &[()], |_| check_mesh(&m, &work), |_| { black_box((bodies::check_mesh(&v, &f).unwrap(), order_list(&m.faces))); });
-        if n > 12 {
-            continue;
-        }
-        for (kind, scale) in [("near", 1.5), ("far", 9.0)] {
-            let ps: Vec<V3> = (0..8).map(|_| core::array::from_fn(|_| scale * r.between(0.6, 1.0))).collect();
-            b.row("polyhedron", &format!("{kind}, {name}"), &ps, |p| polyhedron(p, &m, &work), |p| { black_box(bodies::polyhedron(*p, &v, &f)); });
+/// The reference's check comes with the order list, which it has not.
+fn meshes(b: &Bench, all: &[Body]) {
+    head("meshes", "reference");
+    for q in all {
+        let work = RefCell::new(vec![0; q.mesh.room]);
+        b.row("check_mesh", &q.name, &[()], |_| check_mesh(&q.mesh, &work), |_| { black_box((bodies::check_mesh(&q.verts, &q.faces).unwrap(), order_list(&q.mesh.faces))); });
+    }
+}
+
+/// Single calls: the whole call, and the field alone, which is the call less its mesh check here and the sums without one in the reference.
+fn polyhedra(b: &Bench, all: &[Body], r: &mut Random) {
+    head("polyhedron", "reference");
+    for q in all {
+        let work = RefCell::new(vec![0; q.mesh.room]);
+        for (kind, at) in [("near", NEAR), ("far", FAR)] {
+            let ps = q.stations(r, at, at, if q.faces.len() > 1000 { 1 } else { 8 });
+            let [call, check, whole, alone] = b.best([
+                &|| black_box(&ps).iter().for_each(|p| polyhedron(p, &q.mesh, &work)),
+                &|| check_mesh(&q.mesh, &work),
+                &|| black_box(&ps).iter().for_each(|p| { black_box(bodies::polyhedron(*p, &q.verts, &q.faces)); }),
+                &|| black_box(&ps).iter().for_each(|p| { black_box(q.field(*p)); }),
+            ]);
+            let (inputs, n) = (format!("{}, {kind}", q.name), ps.len() as f64);
+            line("polyhedron", &inputs, call / n, whole / n);
+            line("polyhedron less check_mesh", &inputs, call / n - check, alone / n);
         }
     }
 }
 
 fn magnetic(b: &Bench, r: &mut Random) {
+    head("magnetics", "reference");
     let xs: Vec<Vec<f64>> = (0..256).map(|_| r.list(16, 0.2, 3.0)).collect();
     for (name, reference) in [
         ("body", (|a| { black_box(anomaly::body(m3(a), v3(&a[9..]))); }) as fn(&[f64])),
@@ -172,81 +340,71 @@ fn magnetic(b: &Bench, r: &mut Random) {
     }
 }
 
-/// The reference has no sheets: its part is the mesh check and the order list, once, and the field, body and total_field of each station.
-fn sheets(b: &Bench, r: &mut Random) {
-    let m = sphere(12);
-    let (v, f) = (points(&m.verts), corners(&m.faces));
-    for (kind, scale) in [("near", 1.5), ("far", 9.0)] {
-        let stations: Vec<f64> = (0..3 * 64).map(|_| scale * r.between(0.6, 1.0)).collect();
-        let (magnetisation, ambient): (V3, V3) = ([1.0, 2.0, -2.0], [2e-5, 0.0, 4.5e-5]);
-        let body = physica::Body::Mesh { verts: &v, faces: m.faces.as_chunks::<3>().0 };
-        let ps = points(&stations);
-        let sheet = physica::write_sheet(body, magnetisation, ambient, &ps).unwrap();
-        let lent = std::cell::RefCell::new((vec![0; m.room], vec![0; sheet.len()]));
-        let rows = || {
-            black_box((bodies::check_mesh(&v, &f).unwrap(), order_list(&m.faces)));
-            let centre = [0.0; 3];
-            for p in &ps {
-                let (_, _, t) = if scale > 5.0 { bodies::tetrahedra(*p, centre, &v, &f) } else { bodies::edge_face_sums(*p, &v, &f) };
-                black_box(anomaly::total_field(ambient, anomaly::body(t, magnetisation)));
-            }
-        };
-        let name = format!("{} faces, 64 stations {kind}", f.len());
-        b.row("write_sheet", &name, &[()], |_| {
-            let (work, out) = &mut *lent.borrow_mut();
-            assert!(physica::write_sheet_into(body, magnetisation, ambient, &ps, work, out).is_ok());
-        }, |_| rows());
-        b.row("check_sheet", &name, &[()], |_| assert!(physica::check_sheet(black_box(&sheet)).is_ok()), |_| rows());
+/// Where the stations of profiles and sheets lie, and how many; every second one is far where they are mixed.
+fn places(q: &Body) -> Vec<(&'static str, [f64; 2], [f64; 2], usize)> {
+    let mut all: Vec<_> = [("near", NEAR), ("far", FAR)].into_iter().flat_map(|(kind, at)| [1, 8, 64].map(|n| (kind, at, at, n))).collect();
+    if q.faces.len() < 1000 {
+        all.push(("mixed", NEAR, FAR, 64));
     }
+    all
 }
 
-/// The best time of each part, in seconds, taken in alternation.
-fn best_of(turns: usize, parts: [&dyn Fn(); 4]) -> [f64; 4] {
-    let round = |f: &dyn Fn(), reps: usize| {
-        let t = Instant::now();
-        (0..reps).for_each(|_| f());
-        t.elapsed().as_secs_f64() / reps as f64
-    };
-    let reps = parts.map(|f| (2e-3 / round(f, 1).max(1e-7)).ceil() as usize);
-    let mut best = [f64::MAX; 4];
-    for _ in 0..turns {
-        for k in 0..4 {
-            best[k] = best[k].min(round(parts[k], reps[k]));
-        }
-    }
-    best
+fn inputs(q: &Body, kind: &str, n: usize) -> String {
+    format!("{}, {kind}, {n} {}", q.name, if n == 1 { "station" } else { "stations" })
 }
 
-/// Profiles of 64 stations, every second one far where they are mixed. The reference's part is its mesh check, once, and the sums of each station; the fields
-/// are the single calls less a mesh check each.
-fn profiles(turns: usize, r: &mut Random) {
-    println!("\n| profile of 64 stations | this library | reference | ratio | 64 single calls | ratio | 64 fields | ratio |\n|---|---|---|---|---|---|---|---|");
-    let (near, far) = (1.5, 9.0);
-    for n in [3, 12, 33] {
-        let m = sphere(n);
-        let (v, f) = (points(&m.verts), corners(&m.faces));
-        let triangles = m.faces.as_chunks::<3>().0;
-        for (kind, scales) in [("near", [near, near]), ("far", [far, far]), ("mixed", [near, far])] {
-            let ps: Vec<V3> = (0..64).map(|i| core::array::from_fn(|_| scales[i % 2] * r.between(0.6, 1.0))).collect();
-            let lent = std::cell::RefCell::new((vec![0; m.room], vec![0.0; 13 * ps.len()]));
-            let work = std::cell::RefCell::new(vec![0; m.room]);
-            let [here, reference, single, check] = best_of(turns, [
+/// The reference's side is its mesh check, once, and the sums of each station.
+fn profiles(b: &Bench, all: &[Body], r: &mut Random) {
+    head("profiles", "reference");
+    for q in all {
+        for (kind, even, odd, n) in places(q) {
+            let ps = q.stations(r, even, odd, n);
+            let lent = RefCell::new((vec![0; q.mesh.room], vec![0.0; 13 * n]));
+            let [here, reference] = b.best([
                 &|| {
                     let (work, fields) = &mut *lent.borrow_mut();
-                    assert!(physica::profile_into(black_box(&ps), &v, triangles, work, fields).is_ok());
+                    assert!(physica::profile_into(black_box(&ps), &q.verts, q.triangles(), work, fields).is_ok());
                 },
                 &|| {
-                    black_box(bodies::check_mesh(&v, &f).unwrap());
-                    for (i, p) in black_box(&ps).iter().enumerate() {
-                        black_box(if scales[i % 2] == far { bodies::tetrahedra(*p, [0.0; 3], &v, &f) } else { bodies::edge_face_sums(*p, &v, &f) });
+                    black_box(bodies::check_mesh(&q.verts, &q.faces).unwrap());
+                    black_box(&ps).iter().for_each(|p| { black_box(q.field(*p)); });
+                },
+            ]);
+            line("profile", &inputs(q, kind, n), here, reference);
+        }
+    }
+}
+
+const MAGNETISATION: V3 = [1.0, 2.0, -2.0];
+const AMBIENT: V3 = [2e-5, 0.0, 4.5e-5];
+
+/// The reference has no sheets: its side is the mesh check and the order list, once, and the sums, body and total_field of each station.
+fn sheets(b: &Bench, all: &[Body], r: &mut Random) {
+    head("sheets", "reference");
+    for q in all {
+        let body = physica::Body::Mesh { verts: &q.verts, faces: q.triangles() };
+        for (kind, even, odd, n) in places(q) {
+            let ps = q.stations(r, even, odd, n);
+            let room = physica::sheet_length(q.verts.len(), q.faces.len(), n);
+            let lent = RefCell::new((vec![0; q.mesh.room], vec![0; room]));
+            let write = || {
+                let (work, out) = &mut *lent.borrow_mut();
+                assert!(physica::write_sheet_into(body, MAGNETISATION, AMBIENT, black_box(&ps), work, out).is_ok());
+            };
+            // written in each turn before it is checked
+            let [written, checked, reference] = b.best([
+                &write,
+                &|| assert!(physica::check_sheet(black_box(&lent.borrow().1)).is_ok()),
+                &|| {
+                    black_box((bodies::check_mesh(&q.verts, &q.faces).unwrap(), order_list(&q.mesh.faces)));
+                    for p in black_box(&ps) {
+                        let (_, _, t) = black_box(q.field(*p));
+                        black_box(anomaly::total_field(AMBIENT, anomaly::body(t, MAGNETISATION)));
                     }
                 },
-                &|| black_box(&ps).iter().for_each(|p| polyhedron(p, &m, &work)),
-                &|| check_mesh(&m, &work),
             ]);
-            let fields = single - check * ps.len() as f64;
-            let [a, b, c, d] = [here, reference, single, fields].map(|t| nanoseconds(t * 1e9));
-            println!("| {kind}, {} faces | {a} | {b} | {:.2} | {c} | {:.2} | {d} | {:.2} |", f.len(), here / reference, single / here, fields / here);
+            line("write_sheet", &inputs(q, kind, n), written, reference);
+            line("check_sheet", &inputs(q, kind, n), checked, reference);
         }
     }
 }
@@ -258,43 +416,66 @@ fn tetrahedron() -> Mesh {
 }
 
 /// What checking a mesh sheet takes, against the fields of its stations: those of a station are `polyhedron` less `check_mesh`, then `body` and `total_field`.
-fn checking(turns: usize) {
-    println!("\n| sheet | check_sheet | its fields | ratio |\n|---|---|---|---|");
+fn checking(b: &Bench) {
+    head("checking", "its fields");
     let near = [(1, 1), (2, 1), (2, 8), (3, 1), (3, 2), (5, 1), (9, 1), (9, 2), (17, 1), (17, 2), (33, 1), (65, 1), (65, 2), (91, 1)];
     let rows = near.map(|(n, c)| (n, c, "near", 1.0)).into_iter().chain([1, 3, 17, 91].map(|n| (n, 1, "at 4 radii", 2.2))).chain([1, 3, 17].map(|n| (n, 1, "far", 9.0)));
     for (n, count, kind, scale) in rows {
-        let m = if n == 1 { tetrahedron() } else { sphere(n) };
-        let v = points(&m.verts);
-        let body = physica::Body::Mesh { verts: &v, faces: m.faces.as_chunks::<3>().0 };
-        let (p, magnetisation, ambient): (V3, V3, V3) = ([1.1 * scale, 0.9 * scale, 1.2 * scale], [1.0, 2.0, -2.0], [2e-5, 0.0, 4.5e-5]);
-        let sheet = physica::write_sheet(body, magnetisation, ambient, &vec![p; count]).unwrap();
+        let q = Body::new("smooth", if n == 1 { tetrahedron() } else { sphere(n) });
+        let body = physica::Body::Mesh { verts: &q.verts, faces: q.triangles() };
+        let p: V3 = [1.1 * scale, 0.9 * scale, 1.2 * scale];
+        let sheet = physica::write_sheet(body, MAGNETISATION, AMBIENT, &vec![p; count]).unwrap();
         let hessian = [-1.0, 0.1, 0.2, 0.1, -1.5, 0.3, 0.2, 0.3, 2.5];
-        let work = std::cell::RefCell::new(vec![0; m.room]);
-        let times = best_of(turns, [
+        let work = RefCell::new(vec![0; q.mesh.room]);
+        let times = b.best([
             &|| assert!(physica::check_sheet(black_box(&sheet)).is_ok()),
-            &|| polyhedron(&p, &m, &work),
-            &|| check_mesh(&m, &work),
+            &|| polyhedron(&p, &q.mesh, &work),
+            &|| check_mesh(&q.mesh, &work),
             &|| {
                 let (mut anomaly, mut total) = ([0.0; 3], 0.0);
-                assert_eq!(unsafe { ffi::physica_body(black_box(&hessian), &magnetisation, &mut anomaly) + ffi::physica_total_field(&ambient, &anomaly, &mut total) }, 0);
+                assert_eq!(unsafe { ffi::physica_body(black_box(&hessian), &MAGNETISATION, &mut anomaly) + ffi::physica_total_field(&AMBIENT, &anomaly, &mut total) }, 0);
                 black_box(total);
             },
         ]);
-        let fields = count as f64 * (times[1] - times[2] + times[3]);
-        println!("| {} faces, {count} {kind} | {} | {} | {:.3} |", m.faces.len() / 3, nanoseconds(times[0] * 1e9), nanoseconds(fields * 1e9), times[0] / fields);
+        line("check_sheet", &inputs(&q, kind, count), times[0], count as f64 * (times[1] - times[2] + times[3]));
     }
 }
 
+const GROUPS: [&str; 8] = ["numbers", "prisms", "magnetics", "meshes", "polyhedron", "profiles", "sheets", "checking"];
+/// Those that files have too.
+const OVER_BODIES: [&str; 4] = ["meshes", "polyhedron", "profiles", "sheets"];
+
 fn main() {
-    let turns = std::env::args().nth(1).map_or(30, |w| w.parse().expect("TURNS is a whole number"));
+    let usage = format!("usage: bench [TURNS] [--only GROUP,..] [FILE.obj ..]; the groups are {}", GROUPS.join(", "));
+    let (mut turns, mut only, mut files) = (30, GROUPS.join(","), vec![]);
+    let mut words = std::env::args().skip(1);
+    while let Some(w) = words.next() {
+        match w.as_str() {
+            "--only" => only = words.next().unwrap_or_else(|| end(&usage)),
+            _ if w.ends_with(".obj") => files.push(w),
+            _ => turns = w.parse().unwrap_or_else(|_| end(&usage)),
+        }
+    }
+    if only.split(',').any(|g| !GROUPS.contains(&g)) {
+        end(&usage);
+    }
     start();
-    println!("| call | inputs | this library | reference | ratio |\n|---|---|---|---|---|");
-    let (b, mut r) = (Bench { turns }, Random(0x2545_f491_4f6c_dd1d));
-    integrals(&b, &mut r);
-    prisms(&b, &mut r);
-    meshes(&b, &mut r);
-    magnetic(&b, &mut r);
-    sheets(&b, &mut r);
-    profiles(turns, &mut r);
-    checking(turns);
+    let b = Bench { turns };
+    let all = if files.is_empty() { made() } else { read(&files) };
+    for group in GROUPS {
+        if !only.split(',').any(|g| g == group) || !(files.is_empty() || OVER_BODIES.contains(&group)) {
+            continue;
+        }
+        let r = &mut Random::new();
+        match group {
+            "numbers" => integrals(&b, r),
+            "prisms" => prisms(&b, r),
+            "magnetics" => magnetic(&b, r),
+            "meshes" => meshes(&b, &all),
+            "polyhedron" => polyhedra(&b, &all, r),
+            "profiles" => profiles(&b, &all, r),
+            "sheets" => sheets(&b, &all, r),
+            _ => checking(&b),
+        }
+    }
 }

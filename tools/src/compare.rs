@@ -42,7 +42,21 @@ const SPECIAL: [f64; 26] = [
     f64::EPSILON, 1e9, -1e9, 1000000000.0000001, -1000000000.0000001, 0.9999999999999999, 1.0000000000000002, 1e-6, 9.999999999999999e-7, 1e308, 1e-308,
 ];
 
-/// Special numbers, any bits, any magnitude, whole numbers, numbers near each other.
+/// An odd number of units of the last place from a power of 4: a root's result is next to a power of 2 there.
+fn about_power(r: &mut Random) -> f64 {
+    let k = if r.chance(4) { r.below(1000) as i32 - 500 } else { r.below(24) as i32 - 12 };
+    let (x, odd) = (4f64.powi(k).to_bits(), 2 * r.below(16) as u64 + 1);
+    f64::from_bits(if r.chance(2) { x + odd } else { x - odd })
+}
+
+/// A unit vector by cosines and sines: its computed length is some last places from 1.
+fn direction(r: &mut Random) -> V3 {
+    let (a, b) = (r.between(0.0, std::f64::consts::TAU), r.between(0.0, std::f64::consts::PI));
+    let u = [b.sin() * a.cos(), b.sin() * a.sin(), b.cos()];
+    if r.chance(4) { [a.cos(), a.sin(), 0.0] } else { u }
+}
+
+/// Special numbers, any bits, any magnitude, whole numbers, numbers near each other and near powers of 4.
 fn number(r: &mut Random) -> f64 {
     match r.below(32) {
         0 => r.pick(&SPECIAL),
@@ -51,6 +65,7 @@ fn number(r: &mut Random) -> f64 {
         4..=9 => { let x = r.magnitude(-12.0, 9.0); r.signed(x) }
         10..=13 => r.below(9) as f64 - 4.0,
         14 | 15 => { let x = 1.0 + r.between(-1e-9, 1e-9); r.signed(x) }
+        16 | 17 => { let x = about_power(r); r.signed(x) }
         _ => r.between(-2.0, 2.0),
     }
 }
@@ -75,6 +90,14 @@ fn numbers(r: &mut Random, name: &str, n: usize) -> Vec<f64> {
         "ring" | "ellipsoid_factors" | "cel" => (0..n).map(|_| positive(r)).collect(),
         _ => {
             let mut a: Vec<f64> = (0..n).map(|_| if r.chance(64) { number(r) } else { let x = r.magnitude(-3.0, 6.0); r.signed(x) }).collect();
+            // a vector whose square is near a power of 4
+            if r.chance(8) {
+                let (at, d, u) = (r.below(n - 2), 2f64.powi(r.below(12) as i32 - 6), direction(r));
+                (0..3).for_each(|i| a[at + i] = d * u[i]);
+                if r.chance(2) {
+                    a[at + 3..n.min(at + 6)].fill(0.0);
+                }
+            }
             // radii
             for (call, at) in [("sphere", 6), ("cylinder", 9)] {
                 if name == call && !r.chance(16) {
@@ -146,14 +169,38 @@ fn cube() -> (Vec<V3>, Vec<[u32; 3]>) {
     (v, quads.iter().flat_map(|q: &[u32; 4]| [[q[0], q[1], q[2]], [q[0], q[2], q[3]]]).collect())
 }
 
-/// A closed body: a simple one with faces split, stretched, moved and numbered anew.
+/// A sphere of 2m(n - 1) faces, smooth or with each vertex moved along its radius.
+fn globe(r: &mut Random, n: usize, m: usize) -> (Vec<V3>, Vec<[u32; 3]>) {
+    use std::f64::consts::{PI, TAU};
+    let mut v: Vec<V3> = vec![[0.0, 0.0, 1.0]];
+    for (i, j) in (1..n).flat_map(|i| (0..m).map(move |j| (i, j))) {
+        let (t, a) = (PI * i as f64 / n as f64, TAU * j as f64 / m as f64);
+        v.push([t.sin() * a.cos(), t.sin() * a.sin(), t.cos()]);
+    }
+    v.push([0.0, 0.0, -1.0]);
+    if r.chance(2) {
+        v.iter_mut().for_each(|p| { let k = r.between(0.8, 1.2); p.iter_mut().for_each(|x| *x *= k) });
+    }
+    let at = |i: usize, j: usize| (1 + (i - 1) * m + j % m) as u32;
+    let last = v.len() as u32 - 1;
+    let mut f = vec![];
+    for j in 0..m {
+        f.push([0, at(1, j), at(1, j + 1)]);
+        f.extend((1..n - 1).flat_map(|i| [[at(i, j), at(i + 1, j), at(i + 1, j + 1)], [at(i, j), at(i + 1, j + 1), at(i, j + 1)]]));
+        f.push([at(n - 1, j + 1), at(n - 1, j), last]);
+    }
+    (v, f)
+}
+
+/// A closed body of 4 to some 200 faces, an even number as all closed ones have: a simple one with faces split, stretched, moved and numbered anew.
 fn closed(r: &mut Random) -> (Vec<V3>, Vec<[u32; 3]>) {
-    let (mut v, mut f) = match r.below(5) {
+    let (mut v, mut f) = match r.below(6) {
         0 => (vec![[0.0; 3], [1.0, 0.0, 0.0], [0.0, 1.0, 0.0], [0.0, 0.0, 1.0]], vec![[0, 2, 1], [0, 1, 3], [0, 3, 2], [1, 2, 3]]),
         1 => cube(),
         2 => { let n = r.below(6) + 3; bipyramid(n) }
-        3 => { let n = r.below(60) + 10; bipyramid(n) }
-        _ => bipyramid(4),
+        3 => { let n = if r.chance(3) { r.below(3) + 64 } else { r.below(60) + 10 }; bipyramid(n) }
+        4 => bipyramid(4),
+        _ => { let (n, m) = (3 + r.below(6), 3 + r.below(10)); globe(r, n, m) }
     };
     for _ in 0..r.below(12) {
         // a face becomes three about a new vertex
@@ -210,7 +257,25 @@ fn mesh(r: &mut Random) -> Mesh {
     Mesh { verts, faces, room }
 }
 
-/// Inside, on vertices, edges and faces, near and far, about the hand-over.
+/// A station whose squared distance from a vertex, as it is computed, is an odd number of units of the last place from a power of 4; any near one if none is found.
+fn at_power(r: &mut Random, v: V3) -> V3 {
+    let size = v.iter().fold(0.0, |a: f64, x| a.max(x.abs())).clamp(1e-3, 1e8);
+    let d = 2f64.powi(size.log2() as i32 + r.below(8) as i32 - 2);
+    let mut p = v;
+    for _ in 0..40 {
+        // a long side and one whose square is a unit of the last place; else any direction
+        let u = if r.chance(4) { let mut u = [1.0 + r.below(3) as f64 * f64::EPSILON, 0.0, 2f64.powi(-26)]; u.rotate_left(r.below(3)); u } else { direction(r) };
+        p = core::array::from_fn(|i| v[i] + d * u[i]);
+        let square = { let r: V3 = core::array::from_fn(|i| v[i] - p[i]); r[0] * r[0] + r[1] * r[1] + r[2] * r[2] };
+        let off = square.to_bits().wrapping_sub((d * d).to_bits()) as i64;
+        if off % 2 != 0 && off.unsigned_abs() < 32 {
+            break;
+        }
+    }
+    p
+}
+
+/// Inside, on vertices, edges and faces, in their planes, near and far, about the hand-over, a million sizes away, at distances near powers of 2.
 fn station(r: &mut Random, verts: &[f64], faces: &[u32]) -> V3 {
     let v = points(verts);
     if v.is_empty() {
@@ -224,18 +289,26 @@ fn station(r: &mut Random, verts: &[f64], faces: &[u32]) -> V3 {
         0..=2 => (v[0], v[0], v[0]),
         m => { let k = r.below(m / 3); (of(faces[3 * k]), of(faces[3 * k + 1]), of(faces[3 * k + 2])) }
     };
-    match r.below(12) {
-        0 => if v.len() > 60 && r.chance(2) { v[v.len() - 1] } else { a },
+    match r.below(16) {
+        // the vertex of the most edges, where there may be 65
+        0 if v.len() > 60 && r.chance(2) => {
+            let mut uses = vec![0; v.len()];
+            faces.iter().for_each(|&i| if let Some(n) = uses.get_mut(i as usize) { *n += 1 });
+            (0..v.len()).max_by_key(|&i| uses[i]).map_or(a, |i| v[i])
+        }
+        0 => a,
         1 => { let t = r.pick(&[0.5, 0.25, 2.0, -1.0]); core::array::from_fn(|i| a[i] + t * (b[i] - a[i])) }
         2 => core::array::from_fn(|i| a[i] * 0.25 + b[i] * 0.25 + c[i] * 0.5),
+        // in the face's plane beside it
+        12 => { let [s, t] = r.pick(&[[-1.5, 0.5], [1.0, 1.0], [-0.5, -0.25], [3.0, 0.0]]); core::array::from_fn(|i| a[i] + s * (b[i] - a[i]) + t * (c[i] - a[i])) }
+        13 => { let (d, u) = (size * r.magnitude(5.5, 6.5), direction(r)); core::array::from_fn(|i| centre[i] + d * u[i]) }
+        14 | 15 => at_power(r, a),
         3 => centre,
         4 => { let i = r.below(3); let mut p = centre; p[i] = number(r); p }
         5 | 6 => { let d = size * r.between(4.0, 11.0); let u: V3 = core::array::from_fn(|_| r.between(-1.0, 1.0)); core::array::from_fn(|i| centre[i] + d * u[i]) }
         _ => { let d = size * r.magnitude(-3.0, 3.0); core::array::from_fn(|i| centre[i] + d * r.between(-1.0, 1.0)) }
     }
 }
-
-// ---- profiles
 
 /// The pyramid over a regular polygon whose base is a fan about its middle, vertex 0: n edges meet there, in one plane unless tilted, and n at the top.
 fn fan(n: usize, tilt: f64) -> (Vec<V3>, Vec<[u32; 3]>) {
@@ -245,6 +318,22 @@ fn fan(n: usize, tilt: f64) -> (Vec<V3>, Vec<[u32; 3]>) {
     let (m, top) = (n as u32, n as u32 + 1);
     let f = (0..m).flat_map(|k| { let (a, b) = (1 + k, 1 + (k + 1) % m); [[0, b, a], [a, b, top]] }).collect();
     (v, f)
+}
+
+/// A closed body, or one in six a fan with 63 to 66 edges; and whether it is a fan.
+fn body(r: &mut Random) -> (Mesh, bool) {
+    let fans = r.chance(6);
+    let (v, f) = if fans { fan(r.pick(&[63, 64, 65, 65, 66]), r.pick(&[0.0, 0.25])) } else { closed(r) };
+    let faces = f.concat();
+    (Mesh { verts: flat(&v), room: faces.len() + r.below(3), faces }, fans)
+}
+
+/// One or two of the stations go to a fan's middle or top.
+fn into_fan(r: &mut Random, m: &Mesh, stations: &mut [f64]) {
+    for _ in 0..if stations.is_empty() { 0 } else { 1 + r.below(2) } {
+        let (at, vertex) = (3 * r.below(stations.len() / 3), r.pick(&[0, m.verts.len() - 3]));
+        stations[at..at + 3].copy_from_slice(&m.verts[vertex..vertex + 3]);
+    }
 }
 
 /// How many stations: none, one, about a block, about two, any.
@@ -257,14 +346,14 @@ fn count(r: &mut Random) -> usize {
     }
 }
 
-/// Stations of one kind or of all kinds: near, far (beyond five radii), anywhere.
+/// Stations of one kind, of two or of all kinds: near, far (beyond five radii), either, anywhere.
 fn stations(r: &mut Random, m: &Mesh, n: usize) -> Vec<f64> {
-    let kind = r.below(4);
+    let kinds = r.below(5);
     let mut all = Vec::new();
     for _ in 0..n {
         let p = station(r, &m.verts, &m.faces);
         let size = m.verts.iter().fold(1e-3, |a: f64, x| a.max(if within(*x) { x.abs() } else { 0.0 })).min(1e7);
-        all.extend(match kind {
+        all.extend(match if kinds == 2 { r.below(2) } else { kinds } {
             0 => core::array::from_fn(|_| 1.2 * size * r.between(-1.0, 1.0)),
             1 => { let d = size * r.between(10.0, 40.0); let u: V3 = core::array::from_fn(|_| r.between(0.6, 1.0)); core::array::from_fn(|i| d * r.signed(u[i])) }
             _ => p,
@@ -273,28 +362,15 @@ fn stations(r: &mut Random, m: &Mesh, n: usize) -> Vec<f64> {
     all
 }
 
-/// Bodies of every kind, with stations of every kind; a fan with 63 to 66 edges, at whose middle or top one or two stations of the profile lie; lists of wrong lengths.
+// ---- profiles
+
+/// Bodies of every kind, with stations of every kind; fans; lists of wrong lengths.
 fn profile(r: &mut Random) -> Profile {
-    let fans = r.chance(6);
-    let mesh = if fans {
-        let (n, tilt) = (r.pick(&[63, 64, 65, 65, 66]), r.pick(&[0.0, 0.25]));
-        let (v, f) = fan(n, tilt);
-        let faces = f.concat();
-        Mesh { verts: flat(&v), room: faces.len() + r.below(3), faces }
-    } else if r.chance(3) {
-        mesh(r)
-    } else {
-        let (v, f) = closed(r);
-        let faces = f.concat();
-        Mesh { verts: flat(&v), room: faces.len() + r.below(3), faces }
-    };
+    let (mesh, fans) = if r.chance(4) { (mesh(r), false) } else { body(r) };
     let n = count(r);
     let mut stations = stations(r, &mesh, n);
-    if fans && n > 0 {
-        for _ in 0..1 + r.below(2) {
-            let (at, vertex) = (3 * r.below(n), r.pick(&[0, mesh.verts.len() - 3]));
-            stations[at..at + 3].copy_from_slice(&mesh.verts[vertex..vertex + 3]);
-        }
+    if fans {
+        into_fan(r, &mesh, &mut stations);
     }
     let mut q = Profile { mesh, room: 13 * n + r.pick(&[0, 0, 1, 12, 13, 14, 27]), stations };
     // one fault now and then, or several
@@ -322,6 +398,14 @@ fn refused_stations(r: &mut Random, table: &mut Table) {
             let count = if at < 8 { 8 } else { 17 };
             let mut stations: Vec<f64> = (0..count).flat_map(|_| { let d = r.pick(&[0.7, 3.0, 40.0]); [d * r.between(0.3, 1.0), d * r.between(0.3, 1.0), d] }).collect();
             stations[3 * at..3 * at + 3].copy_from_slice(&if r.chance(2) { v[0] } else { v[n + 1] });
+            let room = sheet_length(v.len(), f.len(), count) + r.below(9);
+            let s = Sheet { kind: 1, mesh: mesh.clone(), magnetisation: [1.0, 2.0, -2.0], ambient: [0.0, 3.0, 4.0], stations: stations.clone(), room };
+            table.add("write_sheet", &write_here(&s), &write_reference(&s), || format!("{s:?}"));
+            // the rows right; then one wrong before, at or after the station
+            let mut b = with_rows(&s);
+            check(table, &b, at);
+            wrong_row(r, &mut b, count);
+            check(table, &b, at);
             let q = Profile { mesh, room: 13 * count + r.below(14), stations };
             table.add("profile", &profile_here(&q), &profile_reference(&q), || format!("{q:?}"));
         }
@@ -330,23 +414,71 @@ fn refused_stations(r: &mut Random, table: &mut Table) {
 
 // ---- sheets
 
+fn check(table: &mut Table, b: &[u8], i: usize) {
+    table.add("check_sheet, sheet_rows, sheet_row", &check_here(b, i), &check_reference(b, i), || format!("{i} {b:?}"));
+}
+
+/// The sheet with the row of each station, zeros where there is none: made also where the writer refuses it.
+fn with_rows(s: &Sheet) -> Vec<u8> {
+    // the reference has no field of a mesh that it refuses
+    let solid = s.kind == 2 || surface(&s.mesh.verts, &s.mesh.faces).is_ok();
+    let rows: Vec<[f64; 8]> = points(&s.stations).into_iter().map(|p| if solid { row(s, p).unwrap_or([0.0; 8]) } else { [0.0; 8] }).collect();
+    sheet_bytes(s, &rows, volume(s))
+}
+
+fn volume(s: &Sheet) -> f64 {
+    let v = &s.mesh.verts;
+    if s.kind == 2 { (v[3] - v[0]) * (v[4] - v[1]) * (v[5] - v[2]) } else { surface(v, &s.mesh.faces).unwrap_or(0.0) }
+}
+
+/// One bit of one of a sheet's rows, of which it has n.
+fn wrong_row(r: &mut Random, b: &mut [u8], n: usize) {
+    if n > 0 {
+        let at = b.len() - 80 - 64 * n + r.below(64 * n);
+        b[at] ^= 1 << r.below(8);
+    }
+}
+
+/// Up to 20 stations with their rows, whatever the writer says of them, and up to two rows wrong: 11, 13 and 20 at any place of a block.
+fn forced_rows(r: &mut Random) -> Vec<u8> {
+    let (mesh, fans) = body(r);
+    let n = 1 + r.below(20);
+    let mut stations = stations(r, &mesh, n);
+    stations.iter_mut().filter(|x| !within(**x)).for_each(|x| *x = 3.5);
+    if fans && r.chance(2) {
+        into_fan(r, &mesh, &mut stations);
+    }
+    let s = Sheet { kind: 1, mesh, magnetisation: [1.0, 2.0, -2.0], ambient: [0.0, 3.0, 4.0], stations, room: 0 };
+    let mut b = with_rows(&s);
+    for _ in 0..r.below(3) {
+        wrong_row(r, &mut b, n);
+    }
+    b
+}
+
 fn sheet(r: &mut Random) -> Sheet {
-    let prismatic = r.chance(3);
-    let (kind, body) = if prismatic {
+    let (kind, (body, fans)) = if r.chance(3) {
         let a = prism(r);
-        (2, Mesh { verts: a[3..].to_vec(), faces: vec![], room: r.below(3) })
+        (2, (Mesh { verts: a[3..].to_vec(), faces: vec![], room: r.below(3) }, false))
     } else {
-        let (v, f) = closed(r);
-        let (verts, faces) = (flat(&v), f.concat());
-        let room = faces.len() + r.below(3);
-        (1, Mesh { verts, faces, room })
+        (1, body(r))
     };
-    let mut stations = Vec::new();
-    for _ in 0..r.pick(&[0, 1, 1, 2, 3]) {
-        let far = r.chance(3);
-        let p = station(r, &body.verts, &body.faces);
-        // far from what makes a row infinite, most of the time
-        stations.extend(p.map(|x| if far || r.chance(2) { x } else { x * 1.37 + 0.011 }));
+    let mut stations = if kind == 1 && r.chance(4) {
+        // about one block, two or three
+        let n = 1 + r.below(20);
+        stations(r, &body, n)
+    } else {
+        let mut few = Vec::new();
+        for _ in 0..r.pick(&[0, 1, 1, 2, 3]) {
+            let far = r.chance(3);
+            let p = station(r, &body.verts, &body.faces);
+            // far from what makes a row infinite, most of the time
+            few.extend(p.map(|x| if far || r.chance(2) { x } else { x * 1.37 + 0.011 }));
+        }
+        few
+    };
+    if fans && r.chance(2) {
+        into_fan(r, &body, &mut stations);
     }
     let mut vector = || -> V3 { core::array::from_fn(|_| if r.chance(24) { number(r) } else { r.between(-5.0, 5.0) * r.pick(&[1.0, 1e-5, 1e4]) }) };
     let (magnetisation, ambient) = (vector(), vector());
@@ -428,9 +560,7 @@ fn forced(r: &mut Random) -> Vec<u8> {
         _ => (2, vec![0.0, 0.0, 0.0, 1.0, 1.0, r.pick(&[1e-6, 9e-7, 0.0, -1.0])], vec![], [9.0; 3]),
     };
     let s = Sheet { kind, mesh: Mesh { verts, faces, room: 0 }, magnetisation: [1.0, 2.0, -2.0], ambient: [0.0, 3.0, 4.0], stations: p.to_vec(), room: 0 };
-    let v = &s.mesh.verts;
-    let volume = if kind == 2 { (v[3] - v[0]) * (v[4] - v[1]) * (v[5] - v[2]) } else { surface(v, &s.mesh.faces).unwrap_or(0.0) };
-    sheet_bytes(&s, &[[0.0; 8]], volume)
+    sheet_bytes(&s, &[[0.0; 8]], volume(&s))
 }
 
 // ---- the table
@@ -492,7 +622,7 @@ fn limits(table: &mut Table) {
             let s = Sheet { kind: 1, mesh: m.clone(), magnetisation: [1.0; 3], ambient: [1.0; 3], stations, room };
             table.add("write_sheet", &write_here(&s), &write_reference(&s), || format!("{v} {f} {n} {room}"));
             let b = sheet_bytes(&s, &vec![[0.0; 8]; n], 1.0 / 6.0);
-            table.add("check_sheet, sheet_rows, sheet_row", &check_here(&b, n), &check_reference(&b, n), || format!("{v} {f} {n}"));
+            check(table, &b, n);
         }
     }
 }
@@ -522,9 +652,9 @@ fn run(seed: u64, counts: &[usize], table: &mut Table) {
         if reference.number == 0 {
             last = reference.out[..reference.numbers[0] as usize].to_vec();
         }
-        let b = if r.chance(30) { forced(&mut r) } else { damaged(&mut r, &last) };
-        let i = r.below(5);
-        table.add("check_sheet, sheet_rows, sheet_row", &check_here(&b, i), &check_reference(&b, i), || format!("{i} {b:?}"));
+        let b = match r.below(30) { 0 => forced(&mut r), 1..=3 => forced_rows(&mut r), _ => damaged(&mut r, &last) };
+        let i = if r.chance(2) { r.below(5) } else { r.below(24) };
+        check(table, &b, i);
     }
     for _ in 0..counts[4] {
         let q = profile(&mut r);

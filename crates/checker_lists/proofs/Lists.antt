@@ -1,30 +1,25 @@
--- The lists of a sheet as they are read, and what is known of them once none of the causes 16, 1, 2, 3, 4, 17 and 18 holds: a body (`now-ready`), its order list
--- (`in-order`) and its mates (`mated`). Assumes nothing.
+-- The lists of a sheet as they are read, and what is known of them once none of the causes 16, 1, 2, 3, 4, 17 and 18 holds: a body (`now-ready`) and its
+-- order list (`in-order`). Assumes nothing.
 use mathlib.Core.Path.{_≡_, refl, sym, ap, ap₂, _∙_}
 use mathlib.Core.Bool.{Bool, true, false, _&&_, _||_}
 use mathlib.Core.List.{List}
-use Prim.Native.Nat.{ℕ, _*_, _/_, _≤_, _<_}
+use Prim.Native.Nat.{ℕ, _*_, _/_}
 use native.Mathlib.Omega.{arith}
-use lib.Dec.{eqb, ltb}
+use lib.Dec.{eqb}
 use lib.Ieee.{Float}
-use lib.ListN.{length, getD, take}
-use lib.Seq.{getD-take, length-take-le}
+use lib.ListN.{length}
 use borrow.Author.Tests.{eqb-true}
-use Rattle.refusals.specs.declared.Refusal.the-variants.{WrongMate}
 use Rattle.refusals.specs.declared.Cause.the-variants.{None}
 use Rattle.refusals.specs.Causes.{orElse}
 use Rattle.refusals.proofs.Causes.{both}
 use Rattle.lists.proofs.Numbers as numbers
-use Rattle.mesh_orders.specs.Edges.{from, to, edgeNumber, edge, reverse}
-use Rattle.mesh_orders.specs.EdgeLaws.{number-apart, small-from, small-to}
 use Rattle.mesh_orders.specs.Order.{orderList}
 use Rattle.mesh.specs.Surface.{Body}
 use Rattle.mesh.specs.Check as mesh
-use Rattle.mesh.specs.CauseLaws.{none-each, none-vertex}
-use Rattle.polyhedron_edge_face_sums.specs.KeptLogarithms.{Mated}
+use Rattle.mesh.specs.CauseLaws.{none-vertex}
 use Rattle.sheet_rows.specs.Kinds.{isMesh, isPrism, knownKind}
 use Rattle.sheet.specs.Writer.{outOfLimits, noSuchVertex}
-use Rattle.sheet.specs.Checker.{kindIn, verticesIn, facesIn, facesStart, orderStart, matesStart, parse, orderIn, matesIn, wrongOrder, isReverse, wrongMate}
+use Rattle.sheet.specs.Checker.{kindIn, verticesIn, facesIn, facesStart, orderStart, matesStart, parse, orderIn, matesIn, wrongOrder, wrongMate}
 use Rattle.sheet_laws.specs.OrderAndMates.{is-order}
 use Rattle.sheet_readers.specs.Opened.{Opened}
 use Rattle.sheet_laws.specs.Reading.{faces-length}
@@ -53,9 +48,6 @@ module _ (b : List ℕ) {n : ℕ} where
   pub faces-loaded : {at : ℕ} → n ≡ 3 * facesIn b → at ≡ facesStart b → unpack 4 n b at ≡ parse b .faces
   unfolding parse
   faces-loaded e p = rw (e, p)
-
-  pub mates-loaded : {at : ℕ} → n ≡ 3 * facesIn b → at ≡ matesStart b → unpack 4 n b at ≡ matesIn b
-  mates-loaded e p = rw (e, p)
 
   pub order-loaded : {at : ℕ} → n ≡ 3 * facesIn b → at ≡ orderStart b → unpack 4 n b at ≡ orderIn b
   order-loaded e p = rw (e, p)
@@ -99,27 +91,6 @@ module _ (b : List ℕ) (v : List Float) (f o : List ℕ) (l : Loaded b v f o) (
   in-order =
       let n : length o ≡ length f = order-length ∙ sym (ap length (l .faces) ∙ faces-length b) in
       is-order f o n (rw (l .faces, l .order) (none-order b (l .opened) e .1)) (now-ready .body .faces)
-
-module _ (b : List ℕ) (v : List Float) (f : List ℕ) (r : Ready b v f) (e : listsCause b ≡ None) where
-  -- the mates are the uses of the same edges, the other way round
-  mate-reversed : (u : ℕ) → u < 3 * facesIn b → edgeNumber (from f (getD (matesIn b) u 0)) (to f (getD (matesIn b) u 0)) ≡ edgeNumber (to f u) (from f u)
-  unfolding wrongMate edge reverse
-  mate-reversed u k =
-      let none : wrongMate f (matesIn b) ≡ None = rw (r .faces) (none-order b (r .opened) e .2) in
-      let n : length f ≡ 3 * facesIn b = ap length (r .faces) ∙ faces-length b in
-      eqb-true _ _ (numbers.both (ltb (getD (matesIn b) u 0) (length f)) _ (none-each (length f) (isReverse f (matesIn b)) (λ i. WrongMate) none u (omega arith)) .1)
-
-  -- those of the first n uses
-  pub mated : (m : List ℕ) → m ≡ matesIn b → (n : ℕ) → n ≤ 3 * facesIn b → (logs : List Float) → length logs ≡ n → Mated f (take n m) logs
-  mated m p n k logs q =
-      let h = r .body .faces in
-      let c = length-take-le n (matesIn b) (omega (arith, unpack-length 4 (3 * facesIn b) b (matesStart b))) in
-      rw p (record {
-        room = q ∙ sym c;
-        reverse = λ u j.
-            rw (getD-take n (matesIn b) u 0 (omega arith))
-            (number-apart _ _ _ _ (omega (arith, small-to f h (getD (matesIn b) u 0))) (omega (arith, small-from f h u)) (mate-reversed u (omega arith)));
-      })
 
 -- ---- 4, 17 and 18 of the lists as they are read: f is the face list, o the order list
 

@@ -1,9 +1,8 @@
 // The checker's first stage after the opening: reads a sheet's lists, and tries the causes 3, 4, 17 and 18.
 ghost use mathlib.Core.Path.{_≡_};
-ghost use Prim.Native.Nat.{_*_};
 ghost use lib.ListN.{length};
 ghost use Rattle.sheet.specs.Writer.{outOfLimits};
-ghost use Rattle.sheet.specs.Checker.{facesIn, parse, matesIn};
+ghost use Rattle.sheet.specs.Checker.{parse};
 ghost use Rattle.sheet_readers.specs.Opened.{Opened};
 ghost use Rattle.checker_lists.specs.Stages.{indicesCause, listsCause, Room, Loaded};
 use checker_order::wrong_lists;
@@ -72,13 +71,4 @@ pub fn lists_cause(sheet: &[u8], verts: &mut [f64], faces: &mut [u32], order: &m
         return Cause::Refused(r);
     }
     indices_cause(sheet, verts, faces, order)
-}
-
-pub fn read_mates(sheet: &[u8], mates: &mut [u32])
-    requires { ⌜ Opened (now sheet) × (length (now mates) ≡ 3 * facesIn (now sheet)) ⌝ }
-    ensures { λ _. ⌜ now (mates .exit) ≡ matesIn (now (sheet .entry)) ⌝ }
-{
-    let v = sheet_readers::vertices(sheet) as usize;
-    let f = sheet_readers::faces(sheet) as usize;
-    read_u32s(sheet, 24 * v + 24 * f, mates);
 }

@@ -1,5 +1,4 @@
-// Room for a body's vertices, faces and order list, and for a logarithm of each edge use, in six sizes: to clear the largest takes longer than to check a small body.
-// The largest has logarithms of the first uses only, so that it stays under 1.5 MB; the fields of its bodies take a little longer.
+// Room for a body's vertices, faces and order list in six sizes: to clear the largest takes longer than to check a small body.
 ghost use mathlib.Core.Path.{_≡_};
 ghost use mathlib.Core.Bool.{_&&_};
 ghost use Prim.Native.Nat.{_*_, _≤_, _<_};
@@ -17,7 +16,7 @@ const SMALLEST: u32 = 40;
 
 const GROWTH: u32 = 4;
 
-// A caller need know no more of a room than how much it is. `vertices_40` is for 40 vertices, `uses_40` and `logs_40` for the edge uses of twice as many faces.
+// A caller need know no more of a room than how much it is. `vertices_40` is for 40 vertices, `uses_40` for the edge uses of twice as many faces.
 fn vertices_40() -> [f64; 120]
     ensures { λ r. ⌜ length r ≡ 120 ⌝ }
 {
@@ -28,12 +27,6 @@ fn uses_40() -> [u32; 240]
     ensures { λ r. ⌜ length r ≡ 240 ⌝ }
 {
     [0; 240]
-}
-
-fn logs_40() -> [f64; 240]
-    ensures { λ r. ⌜ length r ≡ 240 ⌝ }
-{
-    [0.0; 240]
 }
 
 fn vertices_160() -> [f64; 480]
@@ -48,12 +41,6 @@ fn uses_160() -> [u32; 960]
     [0; 960]
 }
 
-fn logs_160() -> [f64; 960]
-    ensures { λ r. ⌜ length r ≡ 960 ⌝ }
-{
-    [0.0; 960]
-}
-
 fn vertices_640() -> [f64; 1920]
     ensures { λ r. ⌜ length r ≡ 1920 ⌝ }
 {
@@ -64,12 +51,6 @@ fn uses_640() -> [u32; 3840]
     ensures { λ r. ⌜ length r ≡ 3840 ⌝ }
 {
     [0; 3840]
-}
-
-fn logs_640() -> [f64; 3840]
-    ensures { λ r. ⌜ length r ≡ 3840 ⌝ }
-{
-    [0.0; 3840]
 }
 
 fn vertices_2560() -> [f64; 7680]
@@ -84,12 +65,6 @@ fn uses_2560() -> [u32; 15360]
     [0; 15360]
 }
 
-fn logs_2560() -> [f64; 15360]
-    ensures { λ r. ⌜ length r ≡ 15360 ⌝ }
-{
-    [0.0; 15360]
-}
-
 fn vertices_10240() -> [f64; 30720]
     ensures { λ r. ⌜ length r ≡ 30720 ⌝ }
 {
@@ -100,12 +75,6 @@ fn uses_10240() -> [u32; 61440]
     ensures { λ r. ⌜ length r ≡ 61440 ⌝ }
 {
     [0; 61440]
-}
-
-fn logs_10240() -> [f64; 61440]
-    ensures { λ r. ⌜ length r ≡ 61440 ⌝ }
-{
-    [0.0; 61440]
 }
 
 fn vertices_all() -> [f64; 60000]
@@ -120,12 +89,6 @@ fn uses_all() -> [u32; 98304]
     [0; 98304]
 }
 
-fn logs_all() -> [f64; 24576]
-    ensures { λ r. ⌜ length r ≡ 24576 ⌝ }
-{
-    [0.0; 24576]
-}
-
 // At most 40 vertices and 80 faces.
 fn in_room_40(sheet: &[u8]) -> Outcome
     requires { ⌜ Opened (now sheet) × (verticesIn (now sheet) ≤ 40) × (facesIn (now sheet) ≤ 80) ⌝ }
@@ -134,8 +97,7 @@ fn in_room_40(sheet: &[u8]) -> Outcome
     let mut verts = vertices_40();
     let mut faces = uses_40();
     let mut order = uses_40();
-    let mut logs = logs_40();
-    in_room(sheet, &mut verts, &mut faces, &mut order, &mut logs)
+    in_room(sheet, &mut verts, &mut faces, &mut order)
 }
 
 // At most 160 vertices and 320 faces.
@@ -146,8 +108,7 @@ fn in_room_160(sheet: &[u8]) -> Outcome
     let mut verts = vertices_160();
     let mut faces = uses_160();
     let mut order = uses_160();
-    let mut logs = logs_160();
-    in_room(sheet, &mut verts, &mut faces, &mut order, &mut logs)
+    in_room(sheet, &mut verts, &mut faces, &mut order)
 }
 
 // At most 640 vertices and 1,280 faces.
@@ -158,8 +119,7 @@ fn in_room_640(sheet: &[u8]) -> Outcome
     let mut verts = vertices_640();
     let mut faces = uses_640();
     let mut order = uses_640();
-    let mut logs = logs_640();
-    in_room(sheet, &mut verts, &mut faces, &mut order, &mut logs)
+    in_room(sheet, &mut verts, &mut faces, &mut order)
 }
 
 // At most 2,560 vertices and 5,120 faces.
@@ -170,8 +130,7 @@ fn in_room_2560(sheet: &[u8]) -> Outcome
     let mut verts = vertices_2560();
     let mut faces = uses_2560();
     let mut order = uses_2560();
-    let mut logs = logs_2560();
-    in_room(sheet, &mut verts, &mut faces, &mut order, &mut logs)
+    in_room(sheet, &mut verts, &mut faces, &mut order)
 }
 
 // At most 10,240 vertices and 20,480 faces.
@@ -182,8 +141,7 @@ fn in_room_10240(sheet: &[u8]) -> Outcome
     let mut verts = vertices_10240();
     let mut faces = uses_10240();
     let mut order = uses_10240();
-    let mut logs = logs_10240();
-    in_room(sheet, &mut verts, &mut faces, &mut order, &mut logs)
+    in_room(sheet, &mut verts, &mut faces, &mut order)
 }
 
 // Every body within document 01's limits.
@@ -194,8 +152,7 @@ fn in_room_all(sheet: &[u8]) -> Outcome
     let mut verts = vertices_all();
     let mut faces = uses_all();
     let mut order = uses_all();
-    let mut logs = logs_all();
-    in_room(sheet, &mut verts, &mut faces, &mut order, &mut logs)
+    in_room(sheet, &mut verts, &mut faces, &mut order)
 }
 
 // Whether the room for n vertices holds the body.

@@ -1,8 +1,6 @@
 // The stages after the opening, one after the other, in room that is lent.
 ghost use mathlib.Core.Path.{_≡_};
-ghost use mathlib.Core.Bool.{cond};
 ghost use Prim.Native.Nat.{_*_, _≤_};
-ghost use lib.Dec.{ltb};
 ghost use lib.ListN.{length};
 ghost use Rattle.sheet.specs.Checker.{verticesIn, facesIn};
 ghost use Rattle.sheet_readers.specs.Opened.{Opened};
@@ -13,14 +11,8 @@ use checker_stations::refused_by;
 use refusals::Cause;
 
 // The lists, the body, the stations.
-fn later_outcome(
-    sheet: &[u8],
-    verts: &mut [f64],
-    faces: &mut [u32],
-    order: &mut [u32],
-    logs: &mut [f64],
-) -> Outcome
-    requires { ⌜ Room (now sheet) (length (now verts)) (length (now faces)) (length (now order)) × (length (now logs) ≤ 3 * facesIn (now sheet)) ⌝ }
+fn later_outcome(sheet: &[u8], verts: &mut [f64], faces: &mut [u32], order: &mut [u32]) -> Outcome
+    requires { ⌜ Room (now sheet) (length (now verts)) (length (now faces)) (length (now order)) ⌝ }
     ensures { λ r. ⌜ r ≡ laterOutcome (now (sheet .entry)) ⌝ }
 {
     let lists = checker_lists::lists_cause(sheet, verts, faces, order);
@@ -31,37 +23,20 @@ fn later_outcome(
     if let Cause::Refused(r) = volume {
         return refused_by(r);
     }
-    checker_stations::stations_outcome(sheet, verts, faces, order, logs)
+    checker_stations::stations_outcome(sheet, verts, faces, order)
 }
 
-fn fewer(a: usize, b: usize) -> usize
-    ensures { λ r. ⌜ r ≡ cond (ltb a b) a b ⌝ }
-{
-    if a < b {
-        return a;
-    }
-    b
-}
-
-// The same, with room to spare, but for the logarithms, of which there may be fewer.
+// The same, with room to spare.
 pub(crate) fn in_room(
     sheet: &[u8],
     verts: &mut [f64],
     faces: &mut [u32],
     order: &mut [u32],
-    logs: &mut [f64],
 ) -> Outcome
     requires { ⌜ Opened (now sheet) × (3 * verticesIn (now sheet) ≤ length (now verts)) × (3 * facesIn (now sheet) ≤ length (now faces)) × (3 * facesIn (now sheet) ≤ length (now order)) ⌝ }
     ensures { λ r. ⌜ r ≡ laterOutcome (now (sheet .entry)) ⌝ }
 {
     let v = 3 * (sheet_readers::vertices(sheet) as usize);
     let f = 3 * (sheet_readers::faces(sheet) as usize);
-    let n = fewer(f, logs.len());
-    later_outcome(
-        sheet,
-        &mut verts[..v],
-        &mut faces[..f],
-        &mut order[..f],
-        &mut logs[..n],
-    )
+    later_outcome(sheet, &mut verts[..v], &mut faces[..f], &mut order[..f])
 }

@@ -1,2 +1,3 @@
 -- Laws that the proofs of the functions share.
+mod InBlocks
 mod Station

@@ -1,2 +1,3 @@
--- What the check of the stations hands up.
+-- What the check of the stations hands up: Outcome. FieldIn is for the contracts of inner functions.
+pub mod FieldIn
 pub mod Outcome

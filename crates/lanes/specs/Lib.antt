@@ -1,2 +1,3 @@
 -- Several numbers side by side.
 pub mod Lanes
+pub mod LaneRoots

@@ -1,5 +1,5 @@
 -- States: `atan2-lane`: atan2 by lanes is `atan2`, for numbers that are not zero and whose quotient is a number; `atan2-parts`: its last step; `reduced-within`, `reduced-is`: the
--- steps of a reduction. Assumes nothing.
+-- steps of a reduction; `atan-is`: atan by lanes of a number. Assumes nothing.
 use mathlib.Core.Path.{_≡_, refl, sym, ap, ap₂, _∙_, subst}
 use Prim.Native.Nat.{ℕ, zero, suc, _+_, _*_, _<_, zero-le}
 use native.Mathlib.Nat.{zero-mul, mul-pos, zero-lt-suc, le-trans, le-of-eq}
@@ -67,7 +67,7 @@ angle-is : (w : Float) → T (le (abs w) 1·0) → angle w ≡ atanWithin rcValu
 unfolding atanWithin
 angle-is w h = ap (λ (r : Float). w ⊗ r) (number-value 1·0 (1·0 ⊕ w ⊗ w) (positive-between (y-within w h) tt) (in-atan w h))
 
-atan-is : (z : Float) → isNan z ≡ false → atanFrom z (angle (reduced z)) ≡ atanBy rcValue z
+pub atan-is : (z : Float) → isNan z ≡ false → atanFrom z (angle (reduced z)) ≡ atanBy rcValue z
 unfolding atanFrom atanBy reduced
 atan-is z n = rw n (go (le (abs z) 1·0) refl)
   where

@@ -1,2 +1,2 @@
--- Laws of atan2 by lanes.
-mod AtanLaw
+-- Laws of atan2 by lanes; of atan for the crates above.
+pub mod AtanLaw

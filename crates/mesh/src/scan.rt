@@ -8,7 +8,9 @@ ghost use Rattle.refusals.specs.Causes.{unless};
 ghost use Rattle.refusals.specs.declared.Refusal.the-variants.{OutOfLimits};
 ghost use Rattle.refusals.specs.declared.Cause.the-variants.{None};
 ghost use Rattle.lists.specs.Count.{Below};
+ghost use Rattle.lists.specs.CountingSort.{Placed};
 ghost use Rattle.mesh_orders.specs.Edges.{from, to, occurrences, maxFaces, Faces};
+ghost use Rattle.mesh_orders.specs.Endpoint.{endpoint};
 ghost use Rattle.mesh_orders.specs.Order.{orderList, Uses};
 ghost use Rattle.mesh.specs.Check.{outOfLimits, noSuchVertex, flippedEdge, openEdge};
 use doubles::within_limits;
@@ -134,6 +136,7 @@ fn first_open(faces: &[u32], order: &[u32], guesses: &[u32]) -> Cause
 pub fn open_edge(faces: &[u32], order: &[u32], counts: &mut [u32], spare: &mut [u32]) -> Cause
     requires { ⌜ Faces (now faces) × (now order ≡ orderList (now faces)) × Below (now faces) (length (now counts)) × (length (now spare) ≡ length (now faces)) ⌝ }
     ensures { λ r. ⌜ r ≡ openEdge (now (faces .entry)) (orderList (now (faces .entry))) ⌝ }
+    ensures { λ r. ⌜ Placed (endpoint true (now (faces .entry))) (orderList (now (faces .entry))) (now (spare .exit)) ⌝ }
 {
     pass(faces, order, true, counts, spare);
     first_open(faces, order, spare)

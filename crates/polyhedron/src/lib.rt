@@ -9,7 +9,6 @@ ghost use lib.ListN.{length};
 ghost use Rattle.newtonian.specs.Field.{answerOf};
 ghost use Rattle.mesh_orders.specs.Order.{orderList};
 ghost use Rattle.mesh.specs.Surface.{Body};
-ghost use Rattle.polyhedron_edge_face_sums.specs.KeptLogarithms.{Mated};
 ghost use Rattle.mesh.specs.Check.{workAfter};
 ghost use Rattle.polyhedron.specs.Polyhedron.{isFar, polyhedronFrom, polyhedronAt, givenCause, polyhedronCause, polyhedron};
 
@@ -23,26 +22,15 @@ fn is_far(p: Vector, c: Vector, r: f64) -> bool
     roots::root(polyhedron_centroid::squared_distance(p, c)) > POLYHEDRON_FAR * r
 }
 
-// The field of a checked mesh at the station p of number i, with its centroid c and radius r. What it is given is not
-// tested. Mates, and as much room for logarithms, make it faster near the body; both may be empty.
-pub fn polyhedron_at(
-    i: u32,
-    p: Vector,
-    c: Vector,
-    r: f64,
-    verts: &[f64],
-    faces: &[u32],
-    mates: &[u32],
-    logs: &mut [f64],
-) -> Field
-    requires { ⌜ Body (now verts) (now faces) × Mated (now faces) (now mates) (now logs) ⌝ }
+// The field of a checked mesh at the station p of number i, with its centroid c and radius r. What it is given is not tested.
+pub fn polyhedron_at(i: u32, p: Vector, c: Vector, r: f64, verts: &[f64], faces: &[u32]) -> Field
+    requires { ⌜ Body (now verts) (now faces) ⌝ }
     ensures { λ a. ⌜ answerOf a ≡ polyhedronFrom i p c r (now (verts .entry)) (now (faces .entry)) ⌝ }
-    ensures { λ _. ⌜ length (now (logs .exit)) ≡ length (now (logs .entry)) ⌝ }
 {
     if is_far(p, c, r) {
-        return Field::At(polyhedron_tetrahedra::tetrahedra(p, c, verts, faces));
+        return Field::At(polyhedron_far_one::tetrahedra(p, c, verts, faces));
     }
-    polyhedron_edge_face_sums::edge_face_sums(i, p, verts, faces, mates, logs)
+    polyhedron_near::edge_face_sums(i, p, verts, faces)
 }
 
 // The causes 1, 2, 12 and 3.
@@ -70,9 +58,7 @@ fn single_point(p: Vector, verts: &[f64], faces: &[u32], order: &[u32]) -> Field
 {
     let c = polyhedron_centroid::centroid(verts, faces, order);
     let r = polyhedron_centroid::radius(c, verts, faces, order);
-    // No mates are at hand.
-    let mut none = [0.0; 1];
-    polyhedron_at(0, p, c, r, verts, faces, &faces[..0], &mut none[..0])
+    polyhedron_at(0, p, c, r, verts, faces)
 }
 
 // The field of a closed polyhedron at a station, at unit Gρ; or refused by 1, 2, 12, 3, 4, 5, 6, 7, 8 or 11. verts has

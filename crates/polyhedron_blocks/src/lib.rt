@@ -12,13 +12,15 @@ use polyhedron_on_edge::EDGE_LIMIT;
 // So many stations to a block.
 pub const STATIONS: usize = 8;
 
-fn keys_of_one() -> [u64; EDGE_LIMIT]
+// Room for the keys of one station's edges.
+pub fn keys_of_one() -> [u64; EDGE_LIMIT]
     ensures { λ q. ⌜ length q ≡ edgeLimit ⌝ }
 {
     [0u64; EDGE_LIMIT]
 }
 
-fn dyads_of_one() -> [f64; BLOCK]
+// Room for their dyads.
+pub fn dyads_of_one() -> [f64; BLOCK]
     ensures { λ q. ⌜ length q ≡ edgeLimit * 9 ⌝ }
 {
     [0.0; BLOCK]

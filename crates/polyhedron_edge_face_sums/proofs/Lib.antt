@@ -1,3 +1,2 @@
 -- Laws of the sums that are carried.
 pub mod Carrying
-pub mod Logs

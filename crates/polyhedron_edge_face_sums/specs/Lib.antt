@@ -1,6 +1,5 @@
--- The field of a polyhedron near it: EdgeFaceSums; which edges it counts, and that they are different: SumsLaws. The other files are no part of the definition: they say what the code
--- keeps beside it (Carried, KeptLogarithms), for the contracts of its inner functions.
+-- The field of a polyhedron near it: EdgeFaceSums; which edges it counts, and that they are different: SumsLaws. Carried is no part of the definition: it says what the code holds, for the
+-- contracts of its inner functions.
 pub mod EdgeFaceSums
 pub mod SumsLaws
 pub mod Carried
-pub mod KeptLogarithms

@@ -7,7 +7,7 @@ use lib.Ieee.{Float}
 use lib.ListN.{length}
 use Rattle.doubles.specs.Rounded.{_⊗_}
 use Rattle.newtonian.specs.Fold.{Fold}
-use Rattle.newtonian.specs.Vectors.{difference, zeroField}
+use Rattle.newtonian.specs.Vectors.{difference, dot, zeroField}
 use Rattle.newtonian.specs.declared.Vector.{Vector}
 use Rattle.newtonian.specs.declared.Newtonian.{Newtonian}
 use Rattle.newtonian.specs.Point.{addPoint}
@@ -44,6 +44,10 @@ pub record FirstPoints (a : Vector) (s : Tetrahedron) (n : ℕ) (x y z w : List 
   pub room : Room x y z w
   pub point : (i : ℕ) → i < n → pointAt x y z i ≡ pointIn a s i
   pub weight : (i : ℕ) → i < n → lane w i ≡ weightIn s i
+
+-- the squared distance of point n of x, y, z from p
+abbrev pub pointSquare : Vector → List Float → List Float → List Float → ℕ → Float
+pointSquare p x y z n = dot (difference (pointAt x y z n) p) (difference (pointAt x y z n) p)
 
 -- the field at p of the points x, y, z with the weights w
 abbrev pub pointStep : Vector → List Float → List Float → List Float → List Float → ℕ → Newtonian → Newtonian

@@ -1,6 +1,6 @@
 // Eight faces of a mesh side by side, from a face on: corner or side j of the face in lane k stands at 8 j + k.
 ghost use mathlib.Core.Path.{_≡_};
-ghost use Prim.Native.Nat.{ℕ, _+_, _/_, _%_, _≤_, _<_};
+ghost use Prim.Native.Nat.{ℕ, _+_, _/_, _%_, _≤_, _<_, min};
 ghost use lib.ListN.{length};
 ghost use Rattle.newtonian.specs.Vectors.{over};
 ghost use Rattle.mesh_orders.specs.Edges.{maxFaces};
@@ -124,6 +124,16 @@ fn side_dyads(
         let m = vector_24(mx, my, mz, i);
         ds[i] = numbers_of(dyad(n, m));
     }
+}
+
+// The smaller of two counts.
+pub fn fewer(a: usize, b: usize) -> usize
+    ensures { λ r. ⌜ r ≡ min a b ⌝ }
+{
+    if a < b {
+        return a;
+    }
+    b
 }
 
 // A group of fewer faces goes face by face: it would cost as much as a whole one.

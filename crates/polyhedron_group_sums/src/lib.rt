@@ -10,44 +10,14 @@ ghost use Rattle.polyhedron_faces.specs.Faces.{Describes, Dyads};
 ghost use Rattle.polyhedron_group.specs.Group.{faceIn, fewest};
 use newtonian::Vector;
 use polyhedron_edge_face_sums::Running;
+use polyhedron_edge_face_sums::add_triangles;
 use polyhedron_group::FEWEST;
 use polyhedron_on_edge::BLOCK;
 use polyhedron_on_edge::EDGE_LIMIT;
 
-// The n faces from first on, added to the state of the station at p face by face.
-fn one_by_one(
-    keys: &mut [u64; EDGE_LIMIT],
-    dyads: &mut [f64; BLOCK],
-    run: Running,
-    p: Vector,
-    verts: &[f64],
-    faces: &[u32],
-    first: usize,
-    n: usize,
-) -> Running
-    requires { ⌜ Sized (now keys) (now dyads) (run .count) × Body (now verts) (now faces) × (first + n ≤ faceCount (now faces)) ⌝ }
-    ensures { λ r. ⌜ Sized (now (keys .exit)) (now (dyads .exit)) (r .count) ⌝ }
-    ensures { λ r. ⌜ Adds p (now (verts .entry)) (now (faces .entry)) first n (now (keys .entry)) (now (dyads .entry)) run (now (keys .exit)) (now (dyads .exit)) r ⌝ }
-{
-    // No mates are at hand.
-    let mates = [0u32; 1];
-    let mut logs = [0.0; 1];
-    polyhedron_edge_face_sums::add_triangles(
-        keys,
-        dyads,
-        &mates[..0],
-        &mut logs[..0],
-        run,
-        p,
-        verts,
-        faces,
-        first,
-        n,
-    )
-}
-
-// The same by lanes, if the faces are not too few, no edge passes through the station and no face lies in a plane with it. The arrays hold the faces.
-fn add_group(
+// The n faces from first on, added to the state of the station at p: by lanes, if the faces are not too few, no edge passes through the station and no face lies in a
+// plane with it; else face by face. The arrays hold the faces.
+pub fn add_group(
     keys: &mut [u64; EDGE_LIMIT],
     dyads: &mut [f64; BLOCK],
     run: Running,
@@ -77,7 +47,7 @@ fn add_group(
     ensures { λ r. ⌜ Adds p (now (verts .entry)) (now (faces .entry)) first n (now (keys .entry)) (now (dyads .entry)) run (now (keys .exit)) (now (dyads .exit)) r ⌝ }
 {
     if n < FEWEST {
-        return one_by_one(keys, dyads, run, p, verts, faces, first, n);
+        return add_triangles(keys, dyads, run, p, verts, faces, first, n);
     }
     let f = run.field;
     let a = polyhedron_eight_faces::add_block(
@@ -104,7 +74,7 @@ fn add_group(
             count: run.count,
         };
     }
-    one_by_one(keys, dyads, run, p, verts, faces, first, n)
+    add_triangles(keys, dyads, run, p, verts, faces, first, n)
 }
 
 // The group, added to the state of the station at p, if this is near.

@@ -1,2 +1,2 @@
--- What the proofs of the loops share.
+-- The mapped rule by its elements, for the proof here and the crates above.
 pub mod Nodes

@@ -13,7 +13,7 @@ pub struct PrismCorner {
 }
 
 // −0 at an upper face makes a station on the face take the limit from outside.
-fn coordinate(upper: bool, p: f64, lo: f64, hi: f64) -> f64
+pub fn coordinate(upper: bool, p: f64, lo: f64, hi: f64) -> f64
     ensures { λ r. ⌜ r ≡ coordinate upper p lo hi ⌝ }
 {
     if upper {
@@ -70,7 +70,7 @@ fn corner_at(p: Vector, lo: Vector, hi: Vector, k: u32) -> PrismCorner
     }
 }
 
-fn sign(k: u32) -> f64
+pub fn sign(k: u32) -> f64
     ensures { λ s. ⌜ s ≡ sign k ⌝ }
 {
     if (k % 2 + k / 2 % 2 + k / 4 % 2) % 2 == 1 {
@@ -99,7 +99,7 @@ fn gradient_term(x: f64, y: f64, z: f64, ly: f64, lz: f64, ax: f64) -> f64
     zero_or_times(y, lz) + zero_or_times(z, ly) - zero_or_times(x, ax)
 }
 
-fn add_corner_terms(s: f64, c: PrismCorner, f: Newtonian) -> Newtonian
+pub fn add_corner_terms(s: f64, c: PrismCorner, f: Newtonian) -> Newtonian
     ensures { λ r. ⌜ r ≡ addCornerTerms s c f ⌝ }
 {
     let at = c.at;

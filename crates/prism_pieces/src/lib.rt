@@ -191,7 +191,7 @@ fn bisected(a: Axis, lo: Vector, hi: Vector) -> Piece
 fn piece_near(rule: AxisRule, p: Vector, lo: Vector, hi: Vector, h: Vector) -> Piece
     ensures { λ r. ⌜ r ≡ pieceNear rule p lo hi h ⌝ }
 {
-    let s = prism_corner_sums::corner_sums(p, lo, hi);
+    let s = prism_corner_lanes::corner_sums(p, lo, hi);
     let a = longest(rule, h);
     if along(a, h) > 2.0 * shortest(h) {
         if too_rough(farthest_corner(p, lo, hi), s.potential) {
@@ -225,5 +225,5 @@ pub fn piece_of(rule: AxisRule, p: Vector, lo: Vector, hi: Vector) -> Piece
     if d > 0.0 {
         return piece_outside(rule, d, p, lo, hi);
     }
-    Piece::Whole(prism_corner_sums::corner_sums(p, lo, hi))
+    Piece::Whole(prism_corner_lanes::corner_sums(p, lo, hi))
 }

@@ -60,22 +60,43 @@ fn is_nearest(f: u64, g: u64, h: u64) -> bool
     std::num::wrapping_sub_u64((f << 20) + half, g * h + ((h * h) >> 22) + 1) < 2 * half
 }
 
-// The root of (f + g^2) * 2^42, rounded to a whole number, where it is g * 2^21 + h, or one more or less; or 0.
+// The root of (f + g^2) * 2^42, rounded to a whole number, where it is c = g * 2^21 + h, or one more or less;
+// or 0. It is found also where it lies close to the middle between two numbers, as next to a power of 4. With
+// k = h - 1, what (c - 1)^2 lacks is f * 2^42 - g * k * 2^22 - k^2, and u is c - 2 more; 2^40 keeps t from going
+// below zero. The products are of k because those of h would be kept from `is_nearest`, in registers that
+// the fast path does not have.
+fn settled_exactly(f: u64, g: u64, h: u64) -> u64
+    requires { ⌜ (f < 0xf_ffff_f000) × (g < 2 ^ 32) × (h < 2 ^ 26) ⌝ }
+    ensures { λ c. ⌜ (0 < c → Near ((f + g * g) * 2 ^ 42) c) ⌝ }
+{
+    if h == 0 {
+        return 0;
+    }
+    let k = h - 1;
+    let t = std::num::wrapping_sub_u64((f << 20) + 0x100_0000_0000, g * k);
+    if 0x200_0000_0000 <= t {
+        return 0;
+    }
+    let c = (g << 21) + h;
+    let u = std::num::wrapping_sub_u64((t << 22) + c, k * k + 0x4000_0000_0000_0002);
+    if u < 2 * c - 2 {
+        return c - 1;
+    }
+    if u < 4 * c - 2 {
+        return c;
+    }
+    if u < 6 * c { c + 1 } else { 0 }
+}
+
+// The same, with the quick test first: one root in 200 needs more.
 fn settled(f: u64, g: u64, h: u64) -> u64
     requires { ⌜ (f < 0xf_ffff_f000) × (g < 2 ^ 32) × (h < 2 ^ 26) ⌝ }
     ensures { λ c. ⌜ (0 < c → Near ((f + g * g) * 2 ^ 42) c) ⌝ }
 {
-    let c = (g << 21) + h;
     if is_nearest(f, g, h) {
-        return c;
+        return (g << 21) + h;
     }
-    if is_nearest(f, g, h + 1) {
-        return c + 1;
-    }
-    if h == 0 {
-        return 0;
-    }
-    if is_nearest(f, g, h - 1) { c - 1 } else { 0 }
+    settled_exactly(f, g, h)
 }
 
 // The root of n * 2^42, rounded to a whole number, from r near 2^63 / √n; or 0 where that is not near enough.

@@ -1,8 +1,8 @@
--- A mesh is judged by `check_surface`, a prism by its sides. Assumes nothing.
+-- A mesh is judged by `check_surface_with_mates`, a prism by its sides. Assumes nothing.
 use mathlib.Core.Path.{_≡_, refl, sym, ap, ap₂, _∙_}
 use mathlib.Core.Bool.{Bool, true, false}
 use mathlib.Core.List.{List, [], _∷_, _++_}
-use Prim.Native.Nat.{ℕ}
+use Prim.Native.Nat.{ℕ, _*_}
 use native.Mathlib.Omega.{arith}
 use lib.ListN.{length, drop}
 use Rattle.refusals.specs.Causes.{unless}
@@ -14,6 +14,8 @@ use Rattle.mesh.specs.Surface.{vertex}
 use Rattle.mesh.specs.Surface as surface
 use Rattle.mesh.specs.Check.{surfaceCause, solidOf, leavesWork, workAfter}
 use Rattle.mesh.specs.declared.Solid.{Solid}
+use Rattle.mesh_check.specs.CheckedMates.{matesAfter}
+use Rattle.mesh_check.proofs.MatesPut.{no-bytes}
 use Rattle.prism.specs.Prism.{sidesWithinLimits, prismVolume}
 use Rattle.sheet_rows.specs.Kinds.{isMesh}
 use Rattle.sheet.specs.Input.{SheetInput}
@@ -34,12 +36,13 @@ thin-work true f w n = sym (no-order f w n)
 thin-work false f w n = refl
 
 module _ (s : SheetInput) where
-  pub mesh-checked : {w p : List ℕ} {r : Solid} → isMesh (s .kind) ≡ true → r ≡ solidOf (surfaceCause (s .vertices) (s .faces)) (surface.volume (s .vertices) (s .faces))
-      → p ≡ workAfter (surfaceCause (s .vertices) (s .faces)) (s .faces) w → BodyChecked s w r p
+  pub mesh-checked : {w m p q : List ℕ} {r : Solid} → isMesh (s .kind) ≡ true → r ≡ solidOf (surfaceCause (s .vertices) (s .faces)) (surface.volume (s .vertices) (s .faces))
+      → p ≡ workAfter (surfaceCause (s .vertices) (s .faces)) (s .faces) w → q ≡ matesAfter (surfaceCause (s .vertices) (s .faces)) (s .faces) m → BodyChecked s w m r p q
   unfolding volume
-  mesh-checked {w = w} e a h = record {
+  mesh-checked {w = w} {m = m} e a h k = record {
     answer = a ∙ rw e (ap (λ (c : Cause). solidOf c (surface.volume (s .vertices) (s .faces))) (sym (surface-cause s e)));
     work = h ∙ ap (λ (c : Cause). workAfter c (s .faces) w) (sym (surface-cause s e));
+    mates = k ∙ ap (λ (c : Cause). matesAfter c (s .faces) m) (sym (surface-cause s e));
   }
 
   module _ (e : isMesh (s .kind) ≡ false) (n : length (s .faces) ≡ 0) where
@@ -57,8 +60,9 @@ module _ (s : SheetInput) where
     unfolding volume
     measured = rw e
 
-    pub prism-checked : (w : List ℕ) {r : Solid} → r ≡ solidOf (unless (sidesWithinLimits lo hi) TooThin) (prismVolume lo hi) → BodyChecked s w r w
-    prism-checked w a = record {
+    pub prism-checked : (w m : List ℕ) {r : Solid} → length m ≡ 4 * length (s .faces) → r ≡ solidOf (unless (sidesWithinLimits lo hi) TooThin) (prismVolume lo hi) → BodyChecked s w m r w m
+    prism-checked w m z a = record {
       answer = a ∙ ap₂ solidOf thin measured;
       work = thin-work (sidesWithinLimits lo hi) (s .faces) w n ∙ ap (λ (c : Cause). workAfter c (s .faces) w) thin;
+      mates = no-bytes (checkBodyCause s) (s .faces) m (omega (arith, n));
     }

@@ -3,7 +3,7 @@ ghost use mathlib.Core.Path.{_≡_};
 ghost use mathlib.Core.Bool.{false};
 ghost use mathlib.Core.List.{List};
 ghost use lib.Ieee.{Float};
-ghost use Prim.Native.Nat.{_≤_};
+ghost use Prim.Native.Nat.{_*_, _≤_};
 ghost use lib.ListN.{length};
 ghost use Rattle.refusals.specs.Causes.{unless};
 ghost use Rattle.refusals.specs.declared.Refusal.the-variants.{TooThin};
@@ -31,13 +31,20 @@ pub fn check_prism(verts: &[f64]) -> Solid
     Solid::Refused(Refusal::TooThin)
 }
 
-// The volume, or the cause of refusal; work holds the order list afterwards, but after 4 and 9. Fields and stations play no part.
-pub fn check_body(kind: u32, verts: &[f64], faces: &[u32], work: &mut [u32]) -> Solid
-    requires { ⌜ Counted (now verts) (now faces) (length (now work)) × (isMesh kind ≡ false → (length (now verts) ≡ 6) × (length (now faces) ≡ 0)) ⌝ }
-    ensures { λ r. ⌜ ((m b : Vector) (st : List Float) → BodyChecked (inputOf kind (now (verts .entry)) (now (faces .entry)) m b st) (now (work .entry)) r (now (work .exit))) ⌝ }
+// The volume, or the cause of refusal; work holds the order list afterwards, but after 4 and 9, and the bytes of mates, four to each edge use, the mates where nothing is refused.
+// Fields and stations play no part.
+pub fn check_body(
+    kind: u32,
+    verts: &[f64],
+    faces: &[u32],
+    work: &mut [u32],
+    mates: &mut [u8],
+) -> Solid
+    requires { ⌜ Counted (now verts) (now faces) (length (now work)) × (isMesh kind ≡ false → (length (now verts) ≡ 6) × (length (now faces) ≡ 0)) × (length (now mates) ≡ 4 * length (now faces)) ⌝ }
+    ensures { λ r. ⌜ ((m b : Vector) (st : List Float) → BodyChecked (inputOf kind (now (verts .entry)) (now (faces .entry)) m b st) (now (work .entry)) (now (mates .entry)) r (now (work .exit)) (now (mates .exit))) ⌝ }
 {
     if sheet_rows::kinds::is_mesh(kind) {
-        return mesh_check::check_surface(verts, faces, work);
+        return mesh_check::check_surface_with_mates(verts, faces, work, mates);
     }
     check_prism(verts)
 }

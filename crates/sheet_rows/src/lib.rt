@@ -3,18 +3,24 @@ pub mod kinds;
 
 ghost use mathlib.Core.Path.{_≡_};
 ghost use mathlib.Core.Bool.{true};
-ghost use lib.ListN.{length};
+ghost use Prim.Native.Nat.{ℕ, _+_, _≤_, _<_};
+ghost use lib.ListN.{length, getD};
 ghost use Rattle.newtonian.specs.Field as newtonian;
 ghost use Rattle.mesh_orders.specs.Order.{orderList};
-ghost use Rattle.mesh.specs.Surface.{Body};
-ghost use Rattle.polyhedron_edge_face_sums.specs.KeptLogarithms.{Mated};
-ghost use Rattle.sheet_rows.specs.Kinds.{isMesh};
-ghost use Rattle.sheet_rows.specs.Row.{fieldAt, rowFrom, rowAt, rowNumbers, allFinite, isFiniteRow, rowCause, answerOf};
+ghost use Rattle.mesh_orders.specs.Edges.{2³²};
+ghost use Rattle.mesh.specs.Surface.{Body, vertex};
+ghost use Rattle.polyhedron_blocks.specs.Blocks.{blockSize, noVector};
+ghost use Rattle.polyhedron_fields.specs.BlockFields.{noField};
+ghost use Rattle.prism.specs.Prism.{prismAt};
+ghost use Rattle.sheet_rows.specs.Kinds.{isMesh, axisRule};
+ghost use Rattle.sheet_rows.specs.Row.{rowFrom, inRow, rowNumbers, allFinite, isFiniteRow, rowCause, answerOf};
+ghost use Rattle.sheet_rows.specs.StationFields.{StationFields};
 ghost use Rattle.sheet_rows.specs.BodyWithCenter.{centerOf, BodyWithCenter};
 use crate::kinds::PLAIN_WIDTH;
 use newtonian::Field;
 use newtonian::Newtonian;
 use newtonian::Vector;
+use polyhedron_blocks::STATIONS;
 use refusals::Cause;
 use refusals::Refusal;
 
@@ -59,27 +65,51 @@ pub fn center_of(kind: u32, verts: &[f64], faces: &[u32], order: &[u32]) -> Cent
     }
 }
 
-// The field at the station p of number i.
-fn field_at(
+// The fields of a prism at n stations, of which the first has the number first.
+fn prism_fields(
     kind: u32,
-    i: u32,
-    p: Vector,
+    first: usize,
+    n: usize,
+    places: [Vector; STATIONS],
+    verts: &[f64],
+) -> [Field; STATIONS]
+    requires { ⌜ (6 ≤ length (now verts)) × (n ≤ blockSize) × (first + n ≤ 2³²) ⌝ }
+    ensures { λ q. ⌜ ((j : ℕ) → j < n → newtonian.answerOf (getD q j noField) ≡
+        prismAt (axisRule kind) (first + j) (getD places j noVector) (vertex (now (verts .entry)) 0) (vertex (now (verts .entry)) 1)) ⌝ }
+{
+    let lo = mesh::surface::vertex(verts, 0);
+    let hi = mesh::surface::vertex(verts, 1);
+    let mut out = polyhedron_fields::no_fields();
+    for j in 0..n {
+        let a = prism::prism_at(
+            kinds::axis_rule(kind),
+            (first + j) as u32,
+            places[j],
+            lo,
+            hi,
+        );
+        out[j] = a;
+    }
+    out
+}
+
+// The fields at up to eight stations, n of them, of which the first has the number first.
+pub fn fields_at(
+    kind: u32,
+    first: usize,
+    n: usize,
+    places: [Vector; STATIONS],
     c: Center,
     verts: &[f64],
     faces: &[u32],
-    mates: &[u32],
-    logs: &mut [f64],
-) -> Field
-    requires { ⌜ BodyWithCenter kind c (now verts) (now faces) × Mated (now faces) (now mates) (now logs) ⌝ }
-    ensures { λ r. ⌜ newtonian.answerOf r ≡ fieldAt kind i p (now (verts .entry)) (now (faces .entry)) ⌝ }
-    ensures { λ _. ⌜ length (now (logs .exit)) ≡ length (now (logs .entry)) ⌝ }
+) -> [Field; STATIONS]
+    requires { ⌜ BodyWithCenter kind c (now verts) (now faces) × (n ≤ blockSize) × (first + n ≤ 2³²) ⌝ }
+    ensures { λ q. ⌜ StationFields kind first n places (now (verts .entry)) (now (faces .entry)) q ⌝ }
 {
     if kinds::is_mesh(kind) {
-        return polyhedron::polyhedron_at(i, p, c.centroid, c.radius, verts, faces, mates, logs);
+        return polyhedron_fields::fields_of(first, n, places, c.centroid, c.radius, verts, faces);
     }
-    let lo = mesh::surface::vertex(verts, 0);
-    let hi = mesh::surface::vertex(verts, 1);
-    prism::prism_at(kinds::axis_rule(kind), i, p, lo, hi)
+    prism_fields(kind, first, n, places, verts)
 }
 
 fn row_from(kind: u32, magnetisation: Vector, ambient: Vector, field: Newtonian) -> Row
@@ -94,25 +124,11 @@ fn row_from(kind: u32, magnetisation: Vector, ambient: Vector, field: Newtonian)
     }
 }
 
-// The row at the station p of number i. A mesh's mates, and as much room for logarithms, make it faster; both may be
-// empty.
-pub fn row_at(
-    kind: u32,
-    magnetisation: Vector,
-    ambient: Vector,
-    i: u32,
-    p: Vector,
-    c: Center,
-    verts: &[f64],
-    faces: &[u32],
-    mates: &[u32],
-    logs: &mut [f64],
-) -> RowAnswer
-    requires { ⌜ BodyWithCenter kind c (now verts) (now faces) × Mated (now faces) (now mates) (now logs) ⌝ }
-    ensures { λ r. ⌜ answerOf r ≡ rowAt kind magnetisation ambient i p (now (verts .entry)) (now (faces .entry)) ⌝ }
-    ensures { λ _. ⌜ length (now (logs .exit)) ≡ length (now (logs .entry)) ⌝ }
+// The row of a field, or the field's refusal.
+pub fn row_of(kind: u32, magnetisation: Vector, ambient: Vector, field: Field) -> RowAnswer
+    ensures { λ r. ⌜ answerOf r ≡ inRow kind magnetisation ambient (newtonian.answerOf field) ⌝ }
 {
-    match field_at(kind, i, p, c, verts, faces, mates, logs) {
+    match field {
         Field::At(g) => RowAnswer::At(row_from(kind, magnetisation, ambient, g)),
         Field::Refused(r) => RowAnswer::Refused(r),
     }

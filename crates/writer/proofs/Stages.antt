@@ -2,12 +2,13 @@
 use mathlib.Core.Path.{_≡_, refl, sym, ap, ap₂, _∙_, subst}
 use mathlib.Core.Bool.{Bool, true, false, _&&_, cond}
 use mathlib.Core.List.{List, _++_}
-use Prim.Native.Nat.{ℕ, _≤_}
+use Prim.Native.Nat.{ℕ, _+_, _*_, _-_, _≤_}
 use native.Mathlib.Omega.{arith}
 use lib.Dec.{leb}
 use lib.Ieee.{Float}
 use lib.ListN.{length, take, drop, replicate}
-use lib.Seq.{take-at}
+use lib.Seq.{length-take-le, take-append-add, take-at, drop-at, drop-drop}
+use borrow.Rule.Slice.PartMut.{midOf, postOf, putMid, same-len-mid, mid-len, put-same, drop-put}
 use Rattle.refusals.specs.Answer.{value, orAnswer}
 use Rattle.refusals.specs.Causes.{orElse, unless, firstOf}
 use Rattle.refusals.specs.declared.Refusal.{Refusal}
@@ -18,6 +19,7 @@ use Rattle.refusals.proofs.Causes.{both}
 use Rattle.mesh_orders.specs.Edges.{maxVertices, maxFaces, maxStations}
 use Rattle.mesh_orders.specs.Order.{orderList}
 use Rattle.mesh_orders.specs.OrderLaws.{order-length}
+use Rattle.mesh_orders.specs.Mates.{mates}
 use Rattle.newtonian.specs.Vectors.{vectorWithinLimits}
 use Rattle.mesh.specs.Surface.{vertex}
 use Rattle.mesh.specs.Check.{orderCause, leavesWork, workAfter}
@@ -25,6 +27,10 @@ use Rattle.mesh.specs.Check as mesh
 use Rattle.mesh.specs.Accepted.{Counted}
 use Rattle.mesh_laws.specs.Laws.{solid-volume, solid-refused}
 use Rattle.mesh.specs.declared.Solid.{Solid}
+use Rattle.mesh_check.specs.CheckedMates.{matesAfter}
+use Rattle.sheet_layout.specs.LittleEndian.{pack}
+use Rattle.sheet_layout.proofs.Lists.{pack-length}
+use Rattle.sheet_layout.proofs.Stores.{sets-all}
 use Rattle.prism.specs.Prism.{sidesWithinLimits}
 use Rattle.sheet_rows.specs.Kinds.{isMesh, withinCounts}
 use Rattle.sheet.specs.Input.{SheetInput, vertexCount, faceCount, stationCount}
@@ -33,8 +39,10 @@ use Rattle.sheet.specs.Writer.{malformed, tooMany, tooShort, outOfLimits, noSuc
 use Rattle.sheet.specs.Promises.{Typed, Kept}
 use Rattle.sheet_laws.specs.WriterLaws.{none-malformed, none-many, none-short, not-mesh, body-of, no-cause, cause-none}
 use Rattle.sheet_laws.specs.Demand3.{kept, sheet-length}
+use Rattle.sheet_laws.specs.OrderAndMates.{mates-length}
 use Rattle.writer_causes.specs.LengthsCause.{wellFormed, lengthsCause}
 use Rattle.sheet_body.specs.BodyChecked.{checkBodyCause, BodyChecked}
+use Rattle.writer_parts.specs.PartsPut.{MatesStand}
 use Rattle.writer_put_sheet.specs.Put.{sheetOrZeros, SheetPut, Prepared}
 use Rattle.writer.specs.declared.Written.{Written}
 use Rattle.writer.specs.declared.Written.the-variants.{Bytes}
@@ -100,6 +108,33 @@ module _ (s : SheetInput) where
   unfolding workAfter
   order-front w = take-at (orderList (s .faces)) (drop (length (s .faces)) w) (length (s .faces)) (order-length (s .faces))
 
+-- ---- a part of a list that was lent and is back
+
+-- it stands in the first n entries
+put-stands : (a e n k : ℕ) (o y : List ℕ) → e ≡ a + k → e ≤ n → e ≤ length o → length y ≡ k → take k (drop a (take n (putMid a (e - a) o y))) ≡ y
+put-stands a e n k o y z h g l =
+    ap (λ (m : ℕ). take k (drop a (take m (putMid a (e - a) o y)))) count
+    ∙ ap (λ (x : List ℕ). take k (drop a x)) (take-append-add (take a o) (y ++ rest) (length y + (n - e)) ∙ ap (λ (x : List ℕ). take a o ++ x) (take-append-add y rest (n - e)))
+    ∙ ap (take k) (drop-at (take a o) (y ++ take (n - e) rest) a before) ∙ take-at y (take (n - e) rest) k l
+  where
+    rest : List ℕ
+    rest = postOf a (e - a) o
+
+    before : length (take a o) ≡ a
+    before = length-take-le a o (omega arith)
+
+    count : n ≡ length (take a o) + (length y + (n - e))
+    count = omega (arith, before)
+
+-- and what lies past them is as it was
+put-leaves : (a e n : ℕ) (o y : List ℕ) → a ≤ e → e ≤ n → e ≤ length o → length y ≡ e - a → drop n (putMid a (e - a) o y) ≡ drop n o
+put-leaves a e n o y b h g l =
+    ap (λ (m : ℕ). drop m (putMid a (e - a) o y)) count ∙ sym (drop-drop (n - e) e (putMid a (e - a) o y)) ∙ ap (drop (n - e)) (drop-put a e o y b g l) ∙ drop-drop (n - e) e o
+    ∙ ap (λ (m : ℕ). drop m o) (sym count)
+  where
+    count : n ≡ e + (n - e)
+    count = omega arith
+
 -- ---- a sheet whose counts are within the limits
 
 module _ (s : SheetInput) (w o : List ℕ) (ok : lengthsCause s (length w) (length o) ≡ None) where
@@ -115,22 +150,51 @@ module _ (s : SheetInput) (w o : List ℕ) (ok : lengthsCause s (length w) (leng
   pub few : (vertexCount s ≤ maxVertices) × (faceCount s ≤ maxFaces) × (stationCount s ≤ maxStations)
   few = let n = none-many s (rest .0) in (n .0, n .1 .0, n .1 .1)
 
-  -- what `check_body` asks
-  pub counted : Counted (s .vertices) (s .faces) (length w) × (isMesh (s .kind) ≡ false → (length (s .vertices) ≡ 6) × (length (s .faces) ≡ 0))
+  counted : Counted (s .vertices) (s .faces) (length w) × (isMesh (s .kind) ≡ false → (length (s .vertices) ≡ 6) × (length (s .faces) ≡ 0))
   counted =
       let m = none-malformed s well-formed in
       (record { coordinates = m .0; corners = m .1 .0; vertices = few .0; faces = few .1; room = room .0 }, λ z. not-mesh s well-formed z .1)
 
-  module _ {r : Solid} {p : List ℕ} (h : BodyChecked s w r p) where
+  -- the bytes of out that are lent for the mates, and out with others in their place
+  abbrev at : ℕ
+  at = 8 * length (s .vertices) + 8 * length (s .faces)
+
+  abbrev end : ℕ
+  end = at + 4 * length (s .faces)
+
+  abbrev pub lent : List ℕ
+  lent = midOf at (end - at) o
+
+  abbrev pub back : List ℕ → List ℕ
+  back y = putMid at (end - at) o y
+
+  mates-fit : end ≤ sheetLength s
+  mates-fit = let m = none-malformed s well-formed in omega (arith, m .0, m .1 .0)
+
+  pub mates-within : end ≤ length o
+  mates-within = omega (arith, mates-fit, room .1)
+
+  lent-size : length lent ≡ 4 * length (s .faces)
+  lent-size = mid-len at end o mates-within ∙ omega arith
+
+  -- what `check_body` asks
+  pub asked : Counted (s .vertices) (s .faces) (length w) × (isMesh (s .kind) ≡ false → (length (s .vertices) ≡ 6) × (length (s .faces) ≡ 0)) × (length lent ≡ 4 * length (s .faces))
+  asked = (counted .0, counted .1, lent-size)
+
+  mates-bytes : length (pack 4 (mates (s .faces))) ≡ 4 * length (s .faces)
+  mates-bytes = pack-length 4 (mates (s .faces)) ∙ ap (λ (n : ℕ). 4 * n) (mates-length (s .faces))
+
+  module _ {r : Solid} {p y : List ℕ} (h : BodyChecked s w lent r p y) where
     -- the body is refused
-    pub body-refused : (q : Refusal) → r ≡ Solid.Refused q → Leaves s (lateCause s) w o (written.the-variants.Refused q) p o
+    pub body-refused : (q : Refusal) → r ≡ Solid.Refused q → Leaves s (lateCause s) w o (written.the-variants.Refused q) p (back y)
+    unfolding matesAfter
     body-refused q e =
         let f = solid-refused (checkBodyCause s) (volume s) q (sym (h .answer) ∙ e) in
         let g = ap (λ (d : Cause). orElse d (firstOf (stationCount s) (stationCause s))) f in
         record {
           answer = sym (ap (λ (d : Cause). orAnswer d (value (sheetLength s))) g);
           work = h .work ∙ ap (λ (d : Cause). workAfter d (s .faces) w) (f ∙ sym g);
-          out = sym (ap (λ (d : Cause). outAfter s d o) g ∙ out-left s q o (of-refused LeavesOut (checkBodyCause s) q (solid-out s) f));
+          out = ap back (h .mates ∙ ap (λ (d : Cause). matesAfter d (s .faces) lent) f) ∙ put-same at (end - at) o ∙ sym (ap (λ (d : Cause). outAfter s d o) g ∙ out-left s q o (of-refused LeavesOut (checkBodyCause s) q (solid-out s) f));
         }
 
     -- it is not
@@ -146,6 +210,20 @@ module _ (s : SheetInput) (w o : List ℕ) (ok : lengthsCause s (length w) (leng
 
       pub order-size : length (take (length (s .faces)) p) ≡ length (s .faces)
       order-size = ap length order ∙ order-length (s .faces)
+
+      -- the bytes are the mates
+      mated : y ≡ pack 4 (mates (s .faces))
+      unfolding matesAfter
+      mated = h .mates ∙ ap (λ (d : Cause). matesAfter d (s .faces) lent) (solid .0) ∙ sets-all lent (pack 4 (mates (s .faces))) (mates-bytes ∙ sym lent-size)
+
+      mated-size : length y ≡ 4 * length (s .faces)
+      mated-size = ap length mated ∙ mates-bytes
+
+      pub back-size : length (back y) ≡ length o
+      back-size = same-len-mid at (end - at) o y (mated-size ∙ sym lent-size)
+
+      pub stand : (n : ℕ) → n ≡ sheetLength s → MatesStand (length (s .vertices)) (s .faces) (take n (back y))
+      stand n z = put-stands at end n (4 * length (s .faces)) o y (omega arith) (omega (arith, mates-fit)) mates-within mated-size ∙ mated
 
       pub prepared : (n : ℕ) → n ≡ sheetLength s → Prepared s (take (length (s .faces)) p) x n
       prepared n z =
@@ -164,14 +242,14 @@ module _ (s : SheetInput) (w o : List ℕ) (ok : lengthsCause s (length w) (leng
             room = z;
           }
 
-      pub put : (c : Cause) (n : ℕ) {a : Written} {q : List ℕ} → n ≡ sheetLength s → SheetPut s c q → writtenAnswer a ≡ orAnswer c (value n) → Leaves s (lateCause s) w o a p (q ++ drop n o)
-      put c n z g a =
+      pub put : (c : Cause) (n : ℕ) {a : Written} {q : List ℕ} → n ≡ sheetLength s → SheetPut s c q → writtenAnswer a ≡ orAnswer c (value n) → Leaves s (lateCause s) w o a p (q ++ drop n (back y))
+      put c n {q = q} z g a =
           let stations = firstOf (stationCount s) (stationCause s) in
           let f : lateCause s ≡ stations = ap (λ (d : Cause). orElse d stations) (solid .0) in
           record {
             answer = a ∙ ap₂ (λ (d : Cause) (k : ℕ). orAnswer d (value k)) (g .cause ∙ sym f) z;
             work = held ∙ late-work s stations (of-stations s) w ∙ ap (λ (d : Cause). workAfter d (s .faces) w) (sym f);
-            out = ap₂ (λ (y : List ℕ) (k : ℕ). y ++ drop k o) (g .bytes ∙ ap (sheetOrZeros s) (g .cause)) z ∙ late-out s stations (of-stations s) o ∙ ap (λ (d : Cause). outAfter s d o) (sym f);
+            out = ap (λ (x : List ℕ). q ++ x) (put-leaves at end n o y (omega arith) (omega (arith, mates-fit)) mates-within (mated-size ∙ omega arith)) ∙ ap₂ (λ (x : List ℕ) (k : ℕ). x ++ drop k o) (g .bytes ∙ ap (sheetOrZeros s) (g .cause)) z ∙ late-out s stations (of-stations s) o ∙ ap (λ (d : Cause). outAfter s d o) (sym f);
           }
 
 -- a cause is an equal one

@@ -31,7 +31,7 @@ fn answer(cause: Cause, size: usize) -> Written
     }
 }
 
-// Writes the sheet of a body whose counts and lengths are within the limits; the numbers are judged by the caller.
+// Writes the sheet of a body whose counts and lengths are within the limits; the numbers are judged by the caller. The check of the body finds the mates, and leaves them in their place.
 fn write_counted(
     kind: u32,
     verts: &[f64],
@@ -45,7 +45,9 @@ fn write_counted(
     requires { ⌜ lengthsCause (inputOf kind (now verts) (now faces) magnetisation ambient (now stations)) (length (now work)) (length (now out)) ≡ None ⌝ }
     ensures { λ r. ⌜ LeavesLate (inputOf kind (now (verts .entry)) (now (faces .entry)) magnetisation ambient (now (stations .entry))) (now (work .entry)) (now (out .entry)) r (now (work .exit)) (now (out .exit)) ⌝ }
 {
-    match check_body(kind, verts, faces, work) {
+    let at = 8 * verts.len() + 8 * faces.len();
+    let end = at + 4 * faces.len();
+    match check_body(kind, verts, faces, work, &mut out[at..end]) {
         Solid::Refused(r) => Written::Refused(r),
         Solid::Volume(volume) => {
             let n = faces.len();

@@ -3,40 +3,23 @@ ghost use mathlib.Core.Path.{_≡_};
 ghost use Prim.Native.Nat.{_+_, _*_, _-_, _≤_};
 ghost use lib.ListN.{length};
 ghost use lib.Seq.{sets};
-ghost use Rattle.mesh_orders.specs.Edges.{Faces};
 ghost use Rattle.mesh_orders.specs.Order.{orderList};
-ghost use Rattle.mesh_orders.specs.Mates.{mates};
-ghost use Rattle.sheet_layout.specs.LittleEndian.{pack};
 ghost use Rattle.sheet_layout.specs.Parts.{joined};
 ghost use Rattle.sheet.specs.Bytes.{trailerLength};
-ghost use Rattle.writer_parts.specs.PartsPut.{frontParts, trailerParts, finished};
-use mesh_orders::mates::mate;
+ghost use Rattle.writer_parts.specs.PartsPut.{frontParts, MatesStand, trailerParts, finished};
 use newtonian::Vector;
 use refusals::Cause;
 use sheet::TRAILER_LENGTH;
 use sheet_layout::put_f64s;
-use sheet_layout::put_u32;
 use sheet_layout::put_u32s;
 use sheet_layout::put_u64;
 use sheet_layout::put_zeros;
 
 // ---- before the rows
 
-// Writes the mates from place at on.
-fn put_mates(faces: &[u32], order: &[u32], out: &mut [u8], at: usize)
-    requires { ⌜ Faces (now faces) × (now order ≡ orderList (now faces)) × (at + 4 * length (now faces) ≤ length (now out)) ⌝ }
-    ensures { λ _. ⌜ now (out .exit) ≡ sets (now (out .entry)) at (pack 4 (mates (now (faces .entry)))) ⌝ }
-{
-    let mut i = 0;
-    while i < faces.len() {
-        put_u32(out, at + 4 * i, mate(faces, order, i as u32));
-        i += 1;
-    }
-}
-
-// Writes vertices, faces, order list, mates and stations from the front.
+// Writes vertices, faces, order list and stations from the front, around the mates, which stand in their place.
 pub fn put_front(verts: &[f64], faces: &[u32], order: &[u32], stations: &[f64], out: &mut [u8])
-    requires { ⌜ Faces (now faces) × (now order ≡ orderList (now faces)) × (8 * length (now verts) + 12 * length (now faces) + 8 * length (now stations) ≤ length (now out)) ⌝ }
+    requires { ⌜ (now order ≡ orderList (now faces)) × (8 * length (now verts) + 12 * length (now faces) + 8 * length (now stations) ≤ length (now out)) × MatesStand (length (now verts)) (now faces) (now out) ⌝ }
     ensures { λ _. ⌜ now (out .exit) ≡ sets (now (out .entry)) 0 (joined (frontParts (now (verts .entry)) (now (faces .entry)) (now (stations .entry)))) ⌝ }
 {
     let at = 8 * verts.len();
@@ -44,7 +27,6 @@ pub fn put_front(verts: &[f64], faces: &[u32], order: &[u32], stations: &[f64], 
     put_f64s(out, 0, verts);
     put_u32s(out, at, faces);
     put_u32s(out, at + n, order);
-    put_mates(faces, order, out, at + 2 * n);
     put_f64s(out, at + 3 * n, stations);
 }
 

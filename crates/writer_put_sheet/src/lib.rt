@@ -1,6 +1,7 @@
 // Puts a sheet together of its parts.
 ghost use lib.ListN.{length};
 ghost use Rattle.sheet.specs.Input.{inputOf};
+ghost use Rattle.writer_parts.specs.PartsPut.{MatesStand};
 ghost use Rattle.writer_put_sheet.specs.Put.{SheetPut, Prepared};
 use newtonian::Vector;
 use refusals::Cause;
@@ -8,7 +9,7 @@ use writer_parts::put_end;
 use writer_parts::put_front;
 use writer_rows::put_rows;
 
-// Writes the sheet over all of out, or zeros where a row is refused.
+// Writes the sheet over all of out, where the mates stand already, or zeros where a row is refused.
 pub fn put_sheet(
     kind: u32,
     verts: &[f64],
@@ -20,7 +21,7 @@ pub fn put_sheet(
     order: &[u32],
     out: &mut [u8],
 ) -> Cause
-    requires { ⌜ Prepared (inputOf kind (now verts) (now faces) magnetisation ambient (now stations)) (now order) volume (length (now out)) ⌝ }
+    requires { ⌜ Prepared (inputOf kind (now verts) (now faces) magnetisation ambient (now stations)) (now order) volume (length (now out)) × MatesStand (length (now verts)) (now faces) (now out) ⌝ }
     ensures { λ r. ⌜ SheetPut (inputOf kind (now (verts .entry)) (now (faces .entry)) magnetisation ambient (now (stations .entry))) r (now (out .exit)) ⌝ }
 {
     put_front(verts, faces, order, stations, out);

@@ -9,7 +9,7 @@ use native.Mathlib.Numerals.{add-one}
 use native.Mathlib.Omega.{arith}
 use lib.ListN.{length, length-map}
 use lib.Seq.{sets}
-use lib.Ieee.{binary64, toBits}
+use lib.Ieee.{Float, binary64, toBits}
 use Rattle.refusals.specs.Answer.{Answer, value, refused}
 use Rattle.refusals.specs.Causes.{unless, causeOr, firstOf}
 use Rattle.refusals.specs.declared.Refusal.{Refusal}
@@ -17,20 +17,30 @@ use Rattle.refusals.specs.declared.Refusal.the-variants.{NotFinite}
 use Rattle.refusals.specs.declared.Cause.{Cause}
 use Rattle.refusals.specs.declared.Cause.the-variants.{None, Refused}
 use Rattle.refusals.proofs.Causes.{each, stop}
+use Rattle.newtonian.specs.declared.Newtonian.{Newtonian}
+use Rattle.newtonian.specs.declared.Vector.{Vector}
+use Rattle.mesh.specs.Surface.{vertex}
 use Rattle.sheet_layout.specs.LittleEndian.{pack, bits}
 use Rattle.sheet_layout.proofs.Stores.{sets-then}
 use Rattle.sheet_layout.proofs.Lists.{pack-append, pack-length}
 use Rattle.sheet_rows.specs.Kinds.{rowWidth}
-use Rattle.sheet_rows.specs.Row.{rowNumbers, isFiniteRow, rowCause}
+use Rattle.sheet_rows.specs.Row.{fieldAt, inRow, rowNumbers, isFiniteRow, rowCause}
+use Rattle.sheet_rows.proofs.RowMade.{row-made}
 use Rattle.sheet_rows.specs.declared.Row.{Row}
-use Rattle.sheet.specs.Input.{SheetInput, stationCount, rowAt}
+use Rattle.sheet.specs.Input.{SheetInput, inputOf, stationCount, rowAt}
 use Rattle.sheet.specs.Bytes.{numbersOf, rows}
 use Rattle.sheet.specs.Writer.{stationCause}
 use Rattle.sheet_laws.specs.Reading.{rows-length}
 use Rattle.writer_rows.specs.Rows.{RowPut, countBefore, RowsPut}
 
-not-none : (r : Refusal) → Refused r ≡ None → ⊥
+pub not-none : (r : Refusal) → Refused r ≡ None → ⊥
 not-none r e = let z : _≡_ {A = ℕ} 0 1 = cc in omega arith
+
+-- the row of station i is that of its field
+pub row-is : (kind i : ℕ) (m b : Vector) (v : List Float) (f : List ℕ) (st : List Float) (q : Answer Newtonian) → q ≡ fieldAt kind i (vertex st i) v f
+    → inRow kind m b q ≡ rowAt (inputOf kind v f m b st) i
+unfolding rowAt
+row-is kind i m b v f st q e = row-made kind i m b (vertex st i) v f q e
 
 module _ (s : SheetInput) (i : ℕ) where
   -- the station's cause, of a field that was given or refused

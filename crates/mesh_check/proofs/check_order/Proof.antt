@@ -1,7 +1,12 @@
 -- `mesh_check::check_order` meets its contract: the causes 5 to 8 in order. Assumes nothing.
+use mathlib.Core.Path.{sym, _∙_}
 use native.Mathlib.Omega.{arith}
+use denote.Ref.{now}
 use borrow.Author.Needs.{needs}
+use Rattle.mesh_orders.specs.Order.{orderList}
 use Rattle.mesh.specs.Check.{orderCause}
+use Rattle.mesh_check.proofs.Partners.{holds-mates}
+use Rattle.mesh_check.proofs.EdgeReturns.{refused-none, no-edge-cause}
 use Rattle.mesh_check.proofs.check_order.Statement.{statement}
 use Rattle.mesh_check.proofs.check_order.Tie as tie
 
@@ -17,7 +22,13 @@ open-edge c = c .before .before .before .before
 
 returns : tie.Need-returns
 unfolding orderCause
-returns c = simp (← c .before .before .before .flipped-edge .ensures, c .before .flipped .given .1)
+returns c =
+    let st = c .before .before .before .before .before .before .before .before .before in
+    let v = now (st .args .verts) in
+    let f = now (st .args .faces) in (
+      simp (← c .before .before .before .flipped-edge .ensures, c .before .flipped .given .1),
+      λ n. absurd (refused-none _ _ (sym (c .before .before .before .flipped-edge .ensures) ∙ c .before .flipped .given .1) (no-edge-cause v f (orderList f) n .0)),
+    )
 
 open-edge-requires : tie.Need-open-edge-requires
 open-edge-requires c κs = let st = start c in (st .pre .0 .faces, st .pre .1, (λ i l. omega (arith, st .pre .0 .inside i l, st .pre .2)), st .pre .3)
@@ -26,13 +37,23 @@ returns-2 : tie.Need-returns-2
 unfolding orderCause
 returns-2 c =
     let a = open-edge (c .before .before .before) in
-    simp (← flipped-edge a .flipped-edge .ensures, a .before .before .before .enum-told .given .1, ← a .open-edge .ensures, c .before .«open» .given .1)
+    let st = start (a .before) in
+    let v = now (st .args .verts) in
+    let f = now (st .args .faces) in (
+      simp (← flipped-edge a .flipped-edge .ensures, a .before .before .before .enum-told .given .1, ← a .open-edge .ensures .0, c .before .«open» .given .1),
+      λ n. absurd (refused-none _ _ (sym (a .open-edge .ensures .0) ∙ c .before .«open» .given .1) (no-edge-cause v f (orderList f) n .1)),
+    )
 
 returns-3 : tie.Need-returns-3
 unfolding orderCause
 returns-3 c =
     let a = open-edge (c .before .before .before) in
-    simp (← flipped-edge a .flipped-edge .ensures, a .before .before .before .enum-told .given .1, ← a .open-edge .ensures, c .before .enum-told2 .given .1) (c .check-faces .ensures)
+    let st = start (a .before) in
+    let v = now (st .args .verts) in
+    let f = now (st .args .faces) in (
+      simp (← flipped-edge a .flipped-edge .ensures, a .before .before .before .enum-told .given .1, ← a .open-edge .ensures .0, c .before .enum-told2 .given .1) (c .check-faces .ensures),
+      λ n. holds-mates f _ (st .pre .0 .faces) (no-edge-cause v f (orderList f) n .0) (no-edge-cause v f (orderList f) n .1) (a .open-edge .ensures .1),
+    )
 
 pub check-order-spec : {M : Type 1} → statement M
 check-order-spec =

@@ -1,5 +1,4 @@
 -- `polyhedron::polyhedron_at` meets its contract. Assumes nothing.
-use mathlib.Core.Path.{refl}
 use borrow.Author.Needs.{needs}
 use Rattle.polyhedron.specs.Polyhedron.{polyhedronFrom}
 use Rattle.polyhedron.proofs.polyhedron_at.Statement.{statement}
@@ -7,14 +6,11 @@ use Rattle.polyhedron.proofs.polyhedron_at.Tie as tie
 
 returns : tie.Need-returns
 unfolding polyhedronFrom
-returns c = (simp (← c .before .before .is-far .ensures, c .before .if1 .taken, c .tetrahedra .ensures), refl)
+returns c = simp (← c .before .before .is-far .ensures, c .before .if1 .taken, c .tetrahedra .ensures)
 
 returns-2 : tie.Need-returns-2
 unfolding polyhedronFrom
-returns-2 c =
-    let sums = c .before .before in
-    let else = sums .before .before in
-    (simp (← else .before .is-far .ensures, else .if1 .left, sums .edge-face-sums .ensures .0), sums .edge-face-sums .ensures .1)
+returns-2 c = simp (← c .before .before .is-far .ensures, c .before .if1 .left, c .edge-face-sums .ensures)
 
 pub polyhedron-at-spec : {M : Type 1} → statement M
-polyhedron-at-spec = tie.close (tie.spec (λ c κs. search needs) (λ c κs. search needs) returns (λ c κs. search needs) (λ c. search needs) returns-2)
+polyhedron-at-spec = tie.close (tie.spec (λ c κs. search needs) (λ c κs. search needs) returns (λ c κs. search needs) returns-2)

@@ -6,10 +6,7 @@ use Rattle.polyhedron.proofs.single_point.Tie as tie
 
 returns : tie.Need-returns
 unfolding polyhedronAt
-returns c =
-    let at = c .before in
-    let radius = at .before .before .before in
-    simp (at .polyhedron-at .ensures .0, radius .radius .ensures, radius .before .centroid .ensures)
+returns c = simp (c .polyhedron-at .ensures, c .before .radius .ensures, c .before .before .centroid .ensures)
 
 pub single-point-spec : {M : Type 1} → statement M
-single-point-spec = tie.close (tie.spec (λ c κs. search needs) (λ c κs. search needs) (λ c. search needs) (λ c. search needs) (λ c. search needs) (λ c κs. search needs) returns)
+single-point-spec = tie.close (tie.spec (λ c κs. search needs) (λ c κs. search needs) (λ c κs. search needs) returns)

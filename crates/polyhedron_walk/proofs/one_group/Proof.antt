@@ -2,7 +2,7 @@
 use mathlib.Core.Path.{refl}
 use borrow.Author.Needs.{needs}
 use Rattle.doubles.specs.Constants.{0·0}
-use Rattle.polyhedron_walk.proofs.Sized.{new-arrays}
+use Rattle.polyhedron_group.proofs.NewArrays.{new-arrays}
 use Rattle.polyhedron_walk.proofs.one_group.Statement.{statement}
 use Rattle.polyhedron_walk.proofs.one_group.Tie as tie
 

@@ -18,22 +18,21 @@ put-f64s c = c .before .before .before .before
 abbrev put-u32s : tie.After-put-u32s2 → tie.After-put-u32s
 put-u32s c = c .before .before .before .before
 
-abbrev put-u32s2 : tie.After-put-mates-arg → tie.After-put-u32s2
-put-u32s2 c = c .before .before .before
+abbrev put-u32s2 : tie.After-put-f64s2 → tie.After-put-u32s2
+put-u32s2 c = c .before .before .before .before
 
 put-u32s-requires-2 : tie.Need-put-u32s-requires-2
-put-u32s-requires-2 c κs = let st = start (put-f64s (c .before .before .before)) in omega (arith, ap length (st .pre .1) ∙ order-length (now (st .args .faces)), st .pre .2)
+put-u32s-requires-2 c κs = let st = start (put-f64s (c .before .before .before)) in omega (arith, ap length (st .pre .0) ∙ order-length (now (st .args .faces)), st .pre .1)
 
 returns : tie.Need-returns
 returns c =
-    let fifth = c .before .before in
-    let fourth = fifth .before .before .before .before in
-    let third = put-u32s2 (fourth .before) in
+    let fourth = c .before .before in
+    let third = put-u32s2 fourth in
     let second = put-u32s third in
     let first = put-f64s second in
     let st = start first in
     let a = st .args in
-    front (now (a .out)) (now (a .verts)) (now (a .faces)) (now (a .order)) (now (a .stations)) (st .pre .1) (first .put-f64s .ensures) (second .put-u32s .ensures) (third .put-u32s2 .ensures) (fourth .put-mates .ensures) (fifth .put-f64s2 .ensures)
+    front (now (a .out)) (now (a .verts)) (now (a .faces)) (now (a .order)) (now (a .stations)) (st .pre .0) (st .pre .1) (st .pre .2) (first .put-f64s .ensures) (second .put-u32s .ensures) (third .put-u32s2 .ensures) (fourth .put-f64s2 .ensures)
 
 pub put-front-spec : {M : Type 1} → statement M
 put-front-spec =
@@ -45,9 +44,6 @@ put-front-spec =
     (λ c κs. omega arith)
     (λ c. omega arith)
     put-u32s-requires-2
-    (λ c. omega arith)
-    (λ c. omega arith)
-    (λ c κs. let st = start (put-f64s (put-u32s (put-u32s2 c))) in (st .pre .0, st .pre .1, omega (arith, st .pre .2)))
     (λ c. omega arith)
     (λ c. omega arith)
     (λ c κs. omega arith)

@@ -28,7 +28,7 @@ start c = entry (c .before)
 
 put-rows-requires : tie.Need-put-rows-requires
 put-rows-requires c κs =
-    let h = start (put-front c) .pre in
+    let h = start (put-front c) .pre .0 in
     (record { body = h .body; center = c .before .center-of .ensures; corners = h .corners }, h .stations, omega arith)
 
 -- out keeps its length
@@ -44,15 +44,15 @@ returns c =
     let put = rows .put-rows .ensures in
     record {
       cause = put .cause;
-      bytes = put-together (input st) (now (a .order)) (a .volume) (now (a .out)) (st .pre) (same-size (slice-known3 c)) (front .put-front .ensures) (rows .put-rows .result) (put .cause) (none-refused (input st) _ put) (c .before .before .put-end .ensures);
+      bytes = put-together (input st) (now (a .order)) (a .volume) (now (a .out)) (st .pre .0) (same-size (slice-known3 c)) (front .put-front .ensures) (rows .put-rows .result) (put .cause) (none-refused (input st) _ put) (c .before .before .put-end .ensures);
     }
 
 pub put-sheet-spec : {M : Type 1} → statement M
 put-sheet-spec =
     tie.close
     (tie.spec
-    (λ c κs. let h = entry c .pre in (h .faces, h .order, omega arith))
-    (λ c κs m. let h = start (c .before .before) .pre in (h .body m, h .order))
+    (λ c κs. let h = entry c .pre in (h .0 .order, omega (arith, h .0 .room, h .0 .coordinates, h .0 .faces .triples, h .0 .triples), h .1))
+    (λ c κs m. let h = start (c .before .before) .pre .0 in (h .body m, h .order))
     (λ c. omega arith)
     (λ c. omega arith)
     (λ c. omega arith)

@@ -2,78 +2,56 @@
 use mathlib.Core.Path.{_≡_, refl, sym, ap, _∙_}
 use mathlib.Core.Bool.{true, false}
 use mathlib.Core.List.{List}
-use Prim.{tt}
+use Prim.Native.Nat.{ℕ}
 use native.Mathlib.Omega.{arith}
 use lib.Seq.{sets}
 use lib.Ieee.{Float}
 use denote.Ref.{now}
 use borrow.Author.Needs.{needs}
-use Rattle.refusals.specs.Answer.{value}
-use Rattle.newtonian.specs.declared.Vector.{Vector}
+use Rattle.refusals.specs.Answer.{Answer, value}
+use Rattle.newtonian.specs.Field as newtonian
+use Rattle.mesh.specs.Surface.{vertex}
 use Rattle.sheet_layout.specs.LittleEndian.{pack, bits}
-use Rattle.sheet_rows.specs.Row.{answerOf}
-use Rattle.sheet_rows.specs.Row as row
+use Rattle.sheet_rows.specs.Row.{answerOf, fieldAt}
 use Rattle.sheet.specs.Input.{SheetInput, rowAt, inputOf}
 use Rattle.sheet.specs.Bytes.{numbersOf}
-use Rattle.writer_rows.proofs.RowLaws.{of-row, of-refused}
+use Rattle.writer_rows.proofs.RowLaws.{of-row, of-refused, row-is}
 use Rattle.writer_rows.proofs.put_row.Statement.{statement}
 use Rattle.writer_rows.proofs.put_row.Tie as tie
 
-abbrev row-at : tie.After-known-told → tie.After-row-at
-row-at c = c .before .before .before .before
-
-abbrev none2 : tie.After-row-numbers → tie.After-none2
-none2 c = c .before .before .before .before .before .before
-
-abbrev row-numbers : tie.After-slice-known2 → tie.After-row-numbers
-row-numbers c = c .before .before .before .before .before
-
-input : (c : tie.Start) → SheetInput
-input c = let a = c .args in inputOf (a .kind) (now (a .verts)) (now (a .faces)) (a .magnetisation) (a .ambient) (now (a .stations))
-
--- where the call begins
-abbrev start : tie.After-row-at → tie.Start
-start c = c .before .before .before .before .before .before .before .before
-
--- what `row_at` answered is the row of station i
-answered : (c : tie.After-row-at) → answerOf (c .row-at .result) ≡ rowAt (input (start c)) (start c .args .i)
-unfolding rowAt input
-answered c =
-    let a = start c .args in
-    c .row-at .ensures .0 ∙ ap (λ (p : Vector). row.rowAt (a .kind) (a .magnetisation) (a .ambient) (a .i) p (now (a .verts)) (now (a .faces))) (c .before .before .before .vertex .ensures)
-
--- a row
-given : (c : tie.After-row) → value (c .row .given .0 .0) ≡ rowAt (input (start (c .before .before .before))) (start (c .before .before .before) .args .i)
-given c = sym (ap answerOf (c .row .given .1)) ∙ answered (c .before .before .before)
+-- what `row_of` answered is the row of station i, if the field is that at the station
+answered : (c : tie.After-row-of) (v : List Float) (f : List ℕ) (st : List Float)
+    → (let a = c .before .before .args in newtonian.answerOf (a .field) ≡ fieldAt (a .kind) (a .i) (vertex st (a .i)) v f
+    → answerOf (c .row-of .result) ≡ rowAt (inputOf (a .kind) v f (a .magnetisation) (a .ambient) st) (a .i))
+answered c v f st h = let a = c .before .before .args in c .row-of .ensures ∙ row-is (a .kind) (a .i) (a .magnetisation) (a .ambient) v f st _ h
 
 returns : tie.Need-returns
-unfolding input
-returns c =
-    let numbers = row-numbers c in
+returns c = λ v f st h.
+    let numbers = c .before .before .before .before .before in
     let finite = numbers .before .before in
     let row = finite .before .before in
-    let st = start (row .before .before .before) in
-    let a = st .args in
+    let a = row .before .before .before .before .args in
+    let s = inputOf (a .kind) v f (a .magnetisation) (a .ambient) st in
+    let given = sym (ap answerOf (row .row .given .1)) ∙ answered (row .before .before) v f st h in
     record {
-      cause = of-row (input st) (a .i) (row .row .given .0 .0) true (given row) (sym (finite .is-finite-row .ensures) ∙ numbers .before .if1 .taken);
-      bytes = c .before .before .put-f64s .ensures ∙ ap (λ (xs : List Float). sets (now (a .out)) (a .at) (pack 8 (bits xs))) (numbers .row-numbers .ensures ∙ ap (numbersOf (input st)) (given row));
+      cause = of-row s (a .i) (row .row .given .0 .0) true given (sym (finite .is-finite-row .ensures) ∙ numbers .before .if1 .taken);
+      bytes = c .before .before .put-f64s .ensures ∙ ap (λ (xs : List Float). sets (now (a .out)) (a .at) (pack 8 (bits xs))) (numbers .row-numbers .ensures ∙ ap (numbersOf s) given);
     }
 
 returns-2 : tie.Need-returns-2
-unfolding input
-returns-2 c =
-    let r = c .before .r .given .0 .0 in
-    let at = row-at c in
-    let st = start at in
-    record { cause = of-refused (input st) (st .args .i) r (sym (ap answerOf (c .before .r .given .1)) ∙ answered at); bytes = refl }
+returns-2 c = λ v f st h.
+    let of = c .before .before .before in
+    let a = of .before .before .args in
+    let s = inputOf (a .kind) v f (a .magnetisation) (a .ambient) st in
+    record { cause = of-refused s (a .i) (c .before .r .given .0 .0) (sym (ap answerOf (c .before .r .given .1)) ∙ answered of v f st h); bytes = refl }
 
 returns-3 : tie.Need-returns-3
-unfolding input
-returns-3 c =
+returns-3 c = λ v f st h.
     let row = c .before .before .before in
-    let st = start (row .before .before .before) in
+    let a = row .before .before .before .before .args in
+    let s = inputOf (a .kind) v f (a .magnetisation) (a .ambient) st in
     record {
-      cause = of-row (input st) (st .args .i) (row .row .given .0 .0) false (given row) (sym (c .before .is-finite-row .ensures) ∙ c .if1 .left);
+      cause = of-row s (a .i) (row .row .given .0 .0) false (sym (ap answerOf (row .row .given .1)) ∙ answered (row .before .before) v f st h) (sym (c .before .is-finite-row .ensures) ∙ c .if1 .left);
       bytes = refl;
     }
 
@@ -81,18 +59,14 @@ pub put-row-spec : {M : Type 1} → statement M
 put-row-spec =
     tie.close
     (tie.spec
-    (λ c κs. omega arith)
-    (λ c. search needs)
-    (λ c. search needs)
-    (λ c. search needs)
     (λ c κs. search needs)
     (λ c. search needs)
     (λ c. search needs)
-    (λ c κs. tt)
-    (λ c κs. tt)
+    (λ c κs. search needs)
+    (λ c κs. search needs)
     (λ c. search needs)
-    (λ c κs. omega (arith, start (none2 (c .before .before) .before) .pre .2))
-    (λ c. omega arith)
+    (λ c κs. search needs)
+    (λ c. search needs)
     returns
     returns-2
     returns-3)

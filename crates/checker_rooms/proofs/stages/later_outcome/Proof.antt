@@ -11,9 +11,9 @@ use Rattle.checker_rooms.proofs.stages.later_outcome.Tie as tie
 
 -- where the call begins, and where the lists were read
 abbrev start : tie.After-lists-cause → tie.Start
-start c = c .before .before .before .before .before .before .before .before .before
+start c = c .before .before .before .before .before .before .before .before
 
-abbrev read : tie.After-slice-known7 → tie.After-lists-cause
+abbrev read : tie.After-slice-known6 → tie.After-lists-cause
 read c = c .before .before .before .before .before .before
 
 -- where they are not refused
@@ -49,20 +49,19 @@ returns-2 c =
     ∙ volume-next (now (start (passed (measured v)) .args .sheet)) _ (none (measured v)) (sym (v .volume-cause .ensures) ∙ told .before .volume .given .1)
 
 -- where the stations' turn comes
-abbrev turned : tie.After-stations-outcome-arg4 → tie.After-enum-told2
-turned c = c .before .before .before .before
+abbrev turned : tie.After-stations-outcome-arg3 → tie.After-enum-told2
+turned c = c .before .before .before
 
 stations-outcome-requires : tie.Need-stations-outcome-requires
 stations-outcome-requires c κs =
     let told = measured (turned c .before .before) in
     let l = passed told in
-    (l .lists-cause .ensures .1, none told, start l .pre .1)
+    (l .lists-cause .ensures .1, none told)
 
 returns-3 : tie.Need-returns-3
 returns-3 c =
-    let s = c .before .before .before .before in
-    let told = measured (turned (s .before) .before .before) in
-    s .stations-outcome .ensures ∙ stations-last (now (start (passed told) .args .sheet)) (none told) (whole (turned (s .before)))
+    let told = measured (turned (c .before) .before .before) in
+    c .stations-outcome .ensures ∙ stations-last (now (start (passed told) .args .sheet)) (none told) (whole (turned (c .before)))
 
 pub later-outcome-spec : {M : Type 1} → statement M
 later-outcome-spec =
@@ -85,7 +84,6 @@ later-outcome-spec =
     returns-2
     (λ c. search needs)
     stations-outcome-requires
-    (λ c. search needs)
     (λ c. search needs)
     (λ c. search needs)
     (λ c. search needs)

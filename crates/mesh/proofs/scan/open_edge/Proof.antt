@@ -1,9 +1,12 @@
--- `mesh::scan::open_edge` meets its contract: the uses by to are uses, so that they may serve as guesses. Assumes nothing.
+-- `mesh::scan::open_edge` meets its contract: the uses by to are uses, so that they may serve as guesses, and they stay in the spare list. Assumes nothing.
 use mathlib.Core.Path.{_≡_, sym, ap, subst, _∙_}
 use mathlib.Core.Bool.{true}
+use mathlib.Core.List.{List}
+use Prim.Native.Nat.{ℕ}
 use lib.ListN.{length}
 use denote.Ref.{now}
 use borrow.Author.Needs.{needs}
+use Rattle.lists.specs.CountingSort.{Placed}
 use Rattle.lists.proofs.Counting.{placed-below}
 use Rattle.mesh_orders.specs.Endpoint.{endpoint}
 use Rattle.mesh_orders.specs.Order.{Uses}
@@ -38,5 +41,11 @@ first-open-requires c κs =
       p .ensures .size ∙ size st,
     )
 
+returns : tie.Need-returns
+returns c =
+    let p = c .before .before .before .before .before .before in
+    let st = start (p .before) in
+    (search needs, subst (λ (l : List ℕ). Placed (endpoint true (now (st .args .faces))) l (p .pass .last .1 .1 .1 .1 .0)) (st .pre .1) (p .pass .ensures))
+
 pub open-edge-spec : {M : Type 1} → statement M
-open-edge-spec = tie.close (tie.spec pass-requires first-open-requires (λ c. search needs) (λ c. search needs) (λ c. search needs))
+open-edge-spec = tie.close (tie.spec pass-requires first-open-requires (λ c. search needs) (λ c. search needs) returns)

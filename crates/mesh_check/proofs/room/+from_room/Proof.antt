@@ -27,14 +27,14 @@ use Rattle.mesh_check.proofs.room.fits.Reads as fits-reads
 use Rattle.mesh_check.proofs.room.+from_room.{statement}
 use Rattle.mesh_check.proofs.room.+from_room.Tie.{close}
 
-abbrev μ-from-room : Measures 3 from-room-kinds.ps ℕ
-μ-from-room κs a = growth * largeRoom - a .1 .1 .1 .0
+abbrev μ-from-room : Measures 4 from-room-kinds.ps ℕ
+μ-from-room κs a = growth * largeRoom - a .1 .1 .1 .1 .0
 
-abbrev from-room-at : ℕ → In 3 from-room-kinds.ps
-from-room-at t = and 3 from-room-kinds.ps (is 3 from-room-kinds.ps μ-from-room t) from-room.Pre
+abbrev from-room-at : ℕ → In 4 from-room-kinds.ps
+from-room-at t = and 4 from-room-kinds.ps (is 4 from-room-kinds.ps μ-from-room t) from-room.Pre
 
-abbrev from-room-below : ℕ → In 3 from-room-kinds.ps
-from-room-below t = and 3 from-room-kinds.ps (falls 3 from-room-kinds.ps _<_ μ-from-room t) from-room.Pre
+abbrev from-room-below : ℕ → In 4 from-room-kinds.ps
+from-room-below t = and 4 from-room-kinds.ps (falls 4 from-room-kinds.ps _<_ μ-from-room t) from-room.Pre
 
 -- the largest room holds every mesh
 not-largest : (v : List Float) (f : List ℕ) (n : ℕ) → Body v f → vertexCount v ≤ maxVertices → (leb (vertexCount v) n && leb (length f) n) ≡ false → n < largeRoom
@@ -61,7 +61,7 @@ claims t = (
 
 -- where the call begins
 abbrev start : (t : ℕ) → from-room-lts.After-fits2 (claims t) (from-room-at t) from-room.Post → from-room-lts.Start (claims t) (from-room-at t) from-room.Post
-start t c = c .before .before .before .before
+start t c = c .before .before .before .before .before
 
 pub +from-room-spec : {M : Type 1} → statement M
 +from-room-spec = close μ-from-room λ t. from-room-lts.spec (claims t)
@@ -70,23 +70,27 @@ pub +from-room-spec : {M : Type 1} → statement M
     (λ c κs. search needs)
     (λ c. search needs)
     (λ c κs.
-    let st = start t (c .before .before) in
+    let st = start t (c .before .before .before) in
     let h = st .pre .1 in
-    let l = not-largest (now (st .args .verts)) (now (st .args .faces)) (st .args .n) (h .0) (h .2) (sym (c .before .before .fits2 .ensures) ∙ not-true _ (c .before .if1 .taken)) in
-    (omega (arith, st .pre .0, h .3), (h .0, h .1, h .2, omega (arith, h .3), omega (arith, l))))
+    let l = not-largest (now (st .args .verts)) (now (st .args .faces)) (st .args .n) (h .0) (h .3) (sym (c .before .before .before .fits2 .ensures) ∙ not-true _ (c .before .before .if1 .taken)) in
+    (omega (arith, st .pre .0, h .4), (h .0, h .1, h .2, h .3, omega (arith, h .4), omega (arith, l))))
+    (λ c. search needs)
     (λ c. search needs)
     (λ c. search needs)
     (λ c κs.
-    let st = start t (c .before .before .before) in
+    let st = start t (c .before .before .before .before) in
     let h = st .pre .1 in
-    let w = held (now (st .args .verts)) (now (st .args .faces)) (st .args .n) smallRoom (c .before .match .keys1) (sym (c .before .before .before .fits2 .ensures) ∙ not-false _ (c .before .before .if1 .left)) in
-    (h .0, h .1, w .0, w .1))
+    let w = held (now (st .args .verts)) (now (st .args .faces)) (st .args .n) smallRoom (c .before .before .match .keys1) (sym (c .before .before .before .before .fits2 .ensures) ∙ not-false _ (c .before .before .before .if1 .left)) in
+    (h .0, h .1, h .2, w .0, w .1))
     (λ c κs.
-    let st = start t (c .before .before .before) in
+    let st = start t (c .before .before .before .before) in
     let h = st .pre .1 in
-    let w = held (now (st .args .verts)) (now (st .args .faces)) (st .args .n) mediumRoom (c .before .match .keys2) (sym (c .before .before .before .fits2 .ensures) ∙ not-false _ (c .before .before .if1 .left)) in
-    (h .0, h .1, w .0, w .1))
-    (λ c κs. search needs)
+    let w = held (now (st .args .verts)) (now (st .args .faces)) (st .args .n) mediumRoom (c .before .before .match .keys2) (sym (c .before .before .before .before .fits2 .ensures) ∙ not-false _ (c .before .before .before .if1 .left)) in
+    (h .0, h .1, h .2, w .0, w .1))
+    (λ c κs. let h = start t (c .before .before .before .before) .pre .1 in (h .0, h .1, h .2, h .3))
+    (λ c. search needs)
+    (λ c. search needs)
+    (λ c. search needs)
     (λ c. search needs)
     (λ c. search needs)
     (λ c. search needs)

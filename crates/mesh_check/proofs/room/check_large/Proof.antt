@@ -9,15 +9,15 @@ use Rattle.mesh.specs.Surface.{vertexCount}
 use Rattle.mesh_check.proofs.room.check_large.Statement.{statement}
 use Rattle.mesh_check.proofs.room.check_large.Tie as tie
 
-abbrev counters : tie.After-check-edges-arg → tie.After-counters
-counters c = c .before .before .before .before
+abbrev counters : tie.After-check-edges-arg2 → tie.After-counters
+counters c = c .before .before .before .before .before
 
 -- where the call begins
 abbrev start : tie.After-counters → tie.Start
-start c = c .before .before .before .before
+start c = c .before .before .before .before .before
 
 vertices : (c : tie.After-counters) → length (take (vertexCount (now (start c .args .verts))) (c .counters .result)) ≡ vertexCount (now (start c .args .verts))
-vertices c = let st = start c in length-take-le (vertexCount (now (st .args .verts))) (c .counters .result) (omega (arith, c .counters .ensures, st .pre .2))
+vertices c = let st = start c in length-take-le (vertexCount (now (st .args .verts))) (c .counters .result) (omega (arith, c .counters .ensures, st .pre .3))
 
 uses : (c : tie.After-large-list) → length (take (length (now (start (c .before) .args .faces))) (c .large-list .result)) ≡ length (now (start (c .before) .args .faces))
 uses c = let st = start (c .before) in length-take-le (length (now (st .args .faces))) (c .large-list .result) (omega (arith, c .large-list .ensures, st .pre .0 .faces .few))
@@ -32,6 +32,7 @@ check-large-spec =
     (λ c. sym (vertices (c .before .before)))
     (λ c. omega (arith, c .before .large-list .ensures, start (c .before .before) .pre .0 .faces .few))
     (λ c. sym (uses (c .before .before)))
-    (λ c κs. let st = start (counters c) in (st .pre .0, vertices (counters c), uses (c .before .before .before), st .pre .1))
+    (λ c κs. let st = start (counters c) in (st .pre .0, vertices (counters c), uses (c .before .before .before .before), st .pre .1, st .pre .2))
+    (λ c. search needs)
     (λ c. search needs)
     (λ c. search needs))

@@ -11,16 +11,16 @@ use Rattle.mesh_check.proofs.room.check_medium.Tie as tie
 
 -- where the call begins
 abbrev start : tie.After-medium-list → tie.Start
-start c = c .before .before .before .before
+start c = c .before .before .before .before .before
 
-abbrev medium-list : tie.After-check-edges-arg → tie.After-medium-list
-medium-list c = c .before .before .before .before
+abbrev medium-list : tie.After-check-edges-arg2 → tie.After-medium-list
+medium-list c = c .before .before .before .before .before
 
 vertices : (c : tie.After-medium-list) → length (take (vertexCount (now (start c .args .verts))) (c .medium-list .result)) ≡ vertexCount (now (start c .args .verts))
-vertices c = let st = start c in length-take-le (vertexCount (now (st .args .verts))) (c .medium-list .result) (omega (arith, c .medium-list .ensures, st .pre .2))
+vertices c = let st = start c in length-take-le (vertexCount (now (st .args .verts))) (c .medium-list .result) (omega (arith, c .medium-list .ensures, st .pre .3))
 
 uses : (c : tie.After-medium-list2) → length (take (length (now (start (c .before) .args .faces))) (c .medium-list2 .result)) ≡ length (now (start (c .before) .args .faces))
-uses c = let st = start (c .before) in length-take-le (length (now (st .args .faces))) (c .medium-list2 .result) (omega (arith, c .medium-list2 .ensures, st .pre .3))
+uses c = let st = start (c .before) in length-take-le (length (now (st .args .faces))) (c .medium-list2 .result) (omega (arith, c .medium-list2 .ensures, st .pre .4))
 
 pub check-medium-spec : {M : Type 1} → statement M
 check-medium-spec =
@@ -32,6 +32,7 @@ check-medium-spec =
     (λ c. sym (vertices (c .before .before)))
     (λ c. search needs)
     (λ c. sym (uses (c .before .before)))
-    (λ c κs. let st = start (medium-list c) in (st .pre .0, vertices (medium-list c), uses (c .before .before .before), st .pre .1))
+    (λ c κs. let st = start (medium-list c) in (st .pre .0, vertices (medium-list c), uses (c .before .before .before .before), st .pre .1, st .pre .2))
+    (λ c. search needs)
     (λ c. search needs)
     (λ c. search needs))

@@ -1,0 +1,2 @@
+-- Laws of atan by lanes.
+mod AtanLaw

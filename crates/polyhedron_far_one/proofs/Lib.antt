@@ -1,0 +1,2 @@
+-- What the points over a face add up to, for the proofs here.
+pub mod Faces

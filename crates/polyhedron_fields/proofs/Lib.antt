@@ -1,0 +1,2 @@
+-- Laws of fields in a list, for the crates above.
+pub mod Placing

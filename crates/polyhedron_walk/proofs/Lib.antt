@@ -1,2 +1,0 @@
--- Laws of the walk.
-mod Sized

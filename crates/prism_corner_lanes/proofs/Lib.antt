@@ -1,0 +1,2 @@
+-- Laws of the corners side by side.
+mod CornersMade

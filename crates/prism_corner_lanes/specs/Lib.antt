@@ -1,0 +1,2 @@
+-- The corners of a prism side by side.
+pub mod CornerLanes
