@@ -37,7 +37,7 @@
    Numbers in are any doubles. A field may hold infinities or NaNs (at an edge, say); that is an answer and no refusal. Which of
    its bit patterns a NaN has is not promised; all else is, bit for bit, by the definitions in crates/NAME/specs.
 
-   The calls keep nothing between them and may run in several threads. check_sheet takes up to 1.5 MB of stack, write_sheet 1 MB, profile 0.6 MB,
+   The calls keep nothing between them and may run in several threads. check_sheet takes up to 1.4 MB of stack, write_sheet, profile,
    polyhedron and check_mesh 0.5 MB. Rounding must be to nearest, with subnormal numbers, as a C program starts.
 */
 #ifndef PHYSICA_H

@@ -120,7 +120,7 @@ pub fn write_sheet_into(
 }
 
 /// Is every byte of the sheet what the definitions give? Refused by 16, 1, 2, 3, 4, 17, 18, then 7, 8 or 9, 19, then station by station 10 or 11, 13, 20.
-/// It takes up to 1.5 MB of stack; a thread of Rust has 2 MB by default.
+/// It takes up to 1.4 MB of stack; a thread of Rust has 2 MB by default.
 ///
 /// ```
 /// assert_eq!(physica::check_sheet(b"no sheet"), Err(physica::Refusal::WrongLength));
