@@ -1,11 +1,9 @@
 /* make_sheets FOLDER: writes the sheets of examples/sheets into FOLDER: a mesh and a prism with their stations, and damaged copies of the mesh's.
-   Build, at the repository's root, after `rt staticlib physica`:
-     cc -O2 -Iinclude -o make_sheets examples/make_sheets.c target/staticlib/libphysica.a */
-#include <inttypes.h>
-#include <stdio.h>
+   Build, at the repository's root, after `rt staticlib physica`: sh examples/build.sh
+   Run: target/examples/make_sheets FOLDER */
 #include <string.h>
 
-#include "physica.h"
+#include "refusals.h"
 
 /* Room for the longer of the two sheets, the mesh's, of 4 vertices, 4 faces and 2 stations. */
 enum { MOST = 24 * 4 + 36 * 4 + 88 * 2 + 80 };
@@ -21,8 +19,8 @@ static const double STATIONS[6] = {2, 0.25, 0.25, 9, -3, 4};
 static const double MAGNETISATION[3] = {1, 2, -2};    /* A/m */
 static const double AMBIENT[3] = {2e-5, 0, 4.5e-5};   /* T */
 
-static int refused(const char *name, uint32_t number, const uint32_t values[2]) {
-    fprintf(stderr, "%s: refused %" PRIu32 ", values %" PRIu32 " %" PRIu32 "\n", name, number, values[0], values[1]);
+static int refused(uint32_t number, const uint32_t values[2]) {
+    print_refusal(stdout, number, values);
     return 1;
 }
 
@@ -56,9 +54,9 @@ int main(int argc, char **argv) {
     size_t length, prism_length;
 
     uint32_t number = physica_write_sheet(1, VERTS, 12, FACES, 12, MAGNETISATION, AMBIENT, STATIONS, 6, work, 12, mesh, MOST, &length, values);
-    if (number != 0) return refused("mesh", number, values);
+    if (number != 0) return refused(number, values);
     number = physica_write_sheet(2, CORNERS, 6, FACES, 0, MAGNETISATION, AMBIENT, STATIONS, 6, work, 0, prism, MOST, &prism_length, values);
-    if (number != 0) return refused("prism", number, values);
+    if (number != 0) return refused(number, values);
 
     size_t mates = 24 * 4 + 24 * 4, rows = length - 80 - 2 * 64, volume = length - 16;
     return save(folder, "mesh.sheet", mesh, length)

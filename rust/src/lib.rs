@@ -3,32 +3,55 @@
 //!
 //! Build the library first, at the repository's root: `rt staticlib physica`. The variable `PHYSICA_LIB_DIR` names another folder that holds it.
 //!
+//! A body is a [`Mesh`]; a sheet's bytes are read by [`Sheet`]. The functions beside them are the library's calls one by one, on lent lists.
+//!
 //! ```
-//! // the tetrahedron of volume 1/6, and its field from a point outside
+//! use physica::{Mesh, Sheet};
+//! // the tetrahedron of volume 1/6, and its field from points outside
 //! let verts = [[0.0, 0.0, 0.0], [1.0, 0.0, 0.0], [0.0, 1.0, 0.0], [0.0, 0.0, 1.0]];
 //! let faces = [[0, 2, 1], [0, 1, 3], [0, 3, 2], [1, 2, 3]];
-//! let mut work = [0; 12];
-//! assert_eq!(physica::check_mesh(&verts, &faces, &mut work), Ok(1.0 / 6.0));
-//! assert_eq!(work, [3, 0, 6, 2, 9, 4, 8, 1, 10, 5, 11, 7]);
-//! let field = physica::polyhedron([4.0, 0.25, 0.25], &verts, &faces, &mut work)?;
-//! assert!((field.potential - 0.0444).abs() < 1e-4);
+//! let mut mesh = Mesh::new(&verts, &faces)?;
+//! assert!((mesh.field([4.0, 0.25, 0.25])?.potential - 0.0444).abs() < 1e-4);
+//!
+//! let bytes = mesh.sheet([1.0, 2.0, -2.0], [2e-5, 0.0, 4.5e-5], &[[2.0, 0.25, 0.25], [9.0, -3.0, 4.0]])?;
+//! let sheet = Sheet::open(&bytes)?;
+//! sheet.check()?;
+//! for (station, row) in sheet.points() {
+//!     println!("{station:?} {row:?}");
+//! }
 //! # Ok::<(), physica::Refusal>(())
 //! ```
 pub mod ffi;
+mod mesh;
 mod profiles;
+mod reading;
 mod refusal;
 mod sheets;
 
+pub use mesh::Mesh;
 pub use profiles::{profile, profile_into, ProfileError};
+pub use reading::{sheet_row, sheet_rows, sheet_station, sheet_trailer, Row, Rows, Sheet, Stations, Trailer};
 pub use refusal::Refusal;
-pub use sheets::{check_sheet, sheet_length, sheet_row, sheet_rows, write_sheet, write_sheet_into, Accepted, Body, Row, Rows};
+pub use sheets::{check_sheet, sheet_length, write_sheet, write_sheet_into, Accepted, Body};
+
+/// 100 · major + minor of this crate's version. [`library_version`] of the library that belongs to it is the same.
+pub const VERSION: u32 = 2;
+
+/// 100 · major + minor of the linked library's version.
+pub fn library_version() -> u32 {
+    // SAFETY: it takes nothing.
+    unsafe { ffi::physica_version() }
+}
 
 pub type Vector = [f64; 3];
 
 /// Three rows.
 pub type Matrix = [[f64; 3]; 3];
 
-/// A field at G·ρ = 1: the potential, its gradient and its Hessian.
+/// A field at G·ρ = 1: the potential V (m²), its gradient (m) and its Hessian (no unit); times G·ρ they are m²/s², m/s² and 1/s².
+///
+/// V is the integral of 1/r over the body: V > 0, and the attraction is +gradient. A field is these thirteen numbers and no more, so callers may make one
+/// and take it apart.
 #[derive(Clone, Copy, Debug, PartialEq)]
 pub struct Newtonian {
     pub potential: f64,
@@ -170,7 +193,15 @@ pub fn prism(station: Vector, min: Vector, max: Vector) -> Result<Newtonian, Ref
 }
 
 /// The volume of a mesh that is closed, wound consistently and outwards. `work` is lent: three entries or more to a face; afterwards its front is the
-/// order list, but after 2, 12, 3 and 4. Refused by 2, 12, 3, 4, 5, 6, 7, 8.
+/// order list, but after 2, 12, 3 and 4. Refused by 2, 12, 3, 4, 5, 6, 7, 8. [`Mesh`] has a work list of its own.
+///
+/// ```
+/// let verts = [[0.0, 0.0, 0.0], [1.0, 0.0, 0.0], [0.0, 1.0, 0.0], [0.0, 0.0, 1.0]];
+/// let faces = [[0, 2, 1], [0, 1, 3], [0, 3, 2], [1, 2, 3]];
+/// let mut work = [0; 12];
+/// assert_eq!(physica::check_mesh(&verts, &faces, &mut work), Ok(1.0 / 6.0));
+/// assert_eq!(work, [3, 0, 6, 2, 9, 4, 8, 1, 10, 5, 11, 7]);
+/// ```
 pub fn check_mesh(verts: &[Vector], faces: &[[u32; 3]], work: &mut [u32]) -> Result<f64, Refusal> {
     let (v, f) = (verts.as_flattened(), faces.as_flattened());
     let (mut out, mut values) = (0.0, [0; 2]);
@@ -188,7 +219,8 @@ pub fn polyhedron(station: Vector, verts: &[Vector], faces: &[[u32; 3]], work: &
     answer_with(n, Newtonian::of(out), values)
 }
 
-/// The field (T) of a uniformly magnetised body from the Hessian of its potential. Refused by 3.
+/// The field B (T) of a uniformly magnetised body from the Hessian of its potential, outside the body or inside, where it is B = μ₀(H + M) and not μ₀H.
+/// Refused by 3.
 pub fn body(hessian: Matrix, magnetisation: Vector) -> Result<Vector, Refusal> {
     let mut out = [0.0; 3];
     // SAFETY: nine numbers lie one after the other in a Matrix; out is three, which nothing else holds.
@@ -196,7 +228,8 @@ pub fn body(hessian: Matrix, magnetisation: Vector) -> Result<Vector, Refusal> {
     answer(n, out)
 }
 
-/// What a total-field magnetometer reads (T) when an anomaly adds to the ambient field; NaN where both are zero. Refused by 3.
+/// The total-field anomaly |F + B| − |F| (T): by how much an anomaly B changes what a total-field magnetometer reads in the ambient field F. NaN where
+/// both are zero. Refused by 3.
 ///
 /// ```
 /// assert_eq!(physica::total_field([0.0; 3], [3.0, 4.0, 0.0]), Ok(5.0));

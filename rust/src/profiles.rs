@@ -46,7 +46,11 @@ pub fn profile(stations: &[Vector], verts: &[Vector], faces: &[[u32; 3]], work: 
     let mut fields = vec![0.0; FIELD_NUMBERS * stations.len()];
     match profile_into(stations, verts, faces, work, &mut fields) {
         Ok(()) => Ok(records(&fields)),
-        Err(refusal) => Err(ProfileError { refusal, before: records(&fields[..FIELD_NUMBERS * filled(refusal)]) }),
+        Err(refusal) => {
+            let mut before = records(&fields);
+            before.truncate(filled(refusal));
+            Err(ProfileError { refusal, before })
+        }
     }
 }
 

@@ -2,13 +2,20 @@ use std::fmt;
 
 /// Why a call gave no answer: one case for each number, with the values that come with it.
 ///
+/// Not exhaustive, because later versions of the library have further numbers: a `match` needs a case for the rest. What has no case in this version
+/// is [`Refusal::Other`], so that a newer `libphysica.a` is no cause of a panic. To tell a number that has no case, compare [`Refusal::number`] and not
+/// `Other`: a later version may give it a case.
+///
+/// As text it is the line that the program `recheck` prints, and the sentence of docs/FOR-READERS.md.
+///
 /// ```
 /// let refusal = physica::carlson_rf(0.0, 0.0, 0.0).unwrap_err();
 /// assert_eq!(refusal, physica::Refusal::OutsideDomain);
 /// assert_eq!(refusal.number(), 14);
-/// assert_eq!(refusal.to_string(), "refused 14: outside the domain");
+/// assert_eq!(refusal.to_string(), "refused 14 0: outside the call's domain");
 /// ```
 #[derive(Clone, Copy, Debug, PartialEq, Eq, Hash)]
+#[non_exhaustive]
 pub enum Refusal {
     /// 1: a list's length, or the kind of body
     Malformed,
@@ -50,6 +57,8 @@ pub enum Refusal {
     WrongVolume,
     /// 20: a sheet's row
     WrongRow { station: u32 },
+    /// a number of a newer library
+    Other(u32),
 }
 
 impl Refusal {
@@ -75,11 +84,11 @@ impl Refusal {
             18 => Refusal::WrongMate,
             19 => Refusal::WrongVolume,
             20 => Refusal::WrongRow { station: a },
-            _ => unreachable!("the library has no refusal {number}"),
+            _ => Refusal::Other(number),
         }
     }
 
-    /// The refusal's number, 1 to 20.
+    /// The refusal's number, as include/physica.h and docs/FOR-READERS.md have it.
     pub fn number(self) -> u32 {
         match self {
             Refusal::Malformed => 1,
@@ -102,6 +111,7 @@ impl Refusal {
             Refusal::WrongMate => 18,
             Refusal::WrongVolume => 19,
             Refusal::WrongRow { .. } => 20,
+            Refusal::Other(number) => number,
         }
     }
 
@@ -117,28 +127,34 @@ impl Refusal {
 
 impl fmt::Display for Refusal {
     fn fmt(&self, f: &mut fmt::Formatter<'_>) -> fmt::Result {
-        write!(f, "refused {}: ", self.number())?;
+        write!(f, "refused {} {}: ", self.number(), self.place())?;
         match *self {
-            Refusal::Malformed => f.write_str("a list's length is no multiple of 3, or no such kind of body"),
-            Refusal::TooMany => f.write_str("over 20,000 vertices, 32,768 faces or 65,536 stations"),
-            Refusal::OutOfLimits => f.write_str("a number is not finite, or over 10^9"),
-            Refusal::NoSuchVertex { face } => write!(f, "face {face} names no vertex"),
+            Refusal::Malformed => f.write_str("the kind is not 1 or 2, or a prism has other than two corners, or a list's length is no multiple of 3"),
+            Refusal::TooMany => f.write_str("too many vertices (20,000), faces (32,768) or stations (65,536)"),
+            Refusal::OutOfLimits => f.write_str("a number such as a coordinate, the magnetisation or the ambient field is not finite, or over 10^9"),
+            Refusal::NoSuchVertex { face } => write!(f, "the face {face} names a vertex that is not there"),
             Refusal::Flipped { from, to } => write!(f, "the edge from {from} to {to} occurs twice"),
             Refusal::Open { from, to } => write!(f, "the edge from {from} to {to} has no reverse"),
-            Refusal::Degenerate { face } => write!(f, "face {face} has no normal"),
+            Refusal::Degenerate { face } => write!(f, "the face {face} has no area"),
             Refusal::Inverted => f.write_str("the volume is not above zero"),
-            Refusal::TooThin => f.write_str("a side of the prism is below 10^-6"),
-            Refusal::TooDeep { station } => write!(f, "the field at station {station} would take a 33rd bisection"),
-            Refusal::TooManyEdges { station } => write!(f, "over 64 edges run through station {station}"),
+            Refusal::TooThin => f.write_str("a side of the prism is below 10^-6, or min and max are exchanged"),
+            Refusal::TooDeep { station } | Refusal::TooManyEdges { station } => {
+                write!(f, "the field at station {station} cannot be computed within the limits (32 bisections of a prism; 64 edges through a station)")
+            }
             Refusal::TooShort => f.write_str("a lent list is too short"),
-            Refusal::NotFinite { station } => write!(f, "the computed row of station {station} is not finite"),
-            Refusal::OutsideDomain => f.write_str("outside the domain"),
+            Refusal::NotFinite { station } => write!(
+                f,
+                "the computed row at station {station} is infinite or no number, as at an edge of the body, or where the ambient field and the body's are \
+                 both zero"
+            ),
+            Refusal::OutsideDomain => f.write_str("outside the call's domain"),
             Refusal::TooManyRounds => f.write_str("Carlson's loop has not ended after 64 rounds"),
-            Refusal::WrongLength => f.write_str("the sheet's length or pointer is not what its counts give"),
-            Refusal::WrongOrder => f.write_str("the order list is not that of the faces"),
-            Refusal::WrongMate => f.write_str("a mate is not the reverse edge use"),
-            Refusal::WrongVolume => f.write_str("the volume is not the computed one"),
-            Refusal::WrongRow { station } => write!(f, "the row of station {station} is not the computed one"),
+            Refusal::WrongLength => f.write_str("the length, or the pointer at the end, does not fit the counts"),
+            Refusal::WrongOrder => f.write_str("the order list is not that of the faces: it is wrong, or an edge occurs twice"),
+            Refusal::WrongMate => f.write_str("a mate is not the reverse edge: it is wrong, or the mesh is open"),
+            Refusal::WrongVolume => f.write_str("the stored volume is not the mesh's"),
+            Refusal::WrongRow { station } => write!(f, "the row of station {station} is not what the formulas give"),
+            Refusal::Other(_) => f.write_str("a refusal of a newer version"),
         }
     }
 }
@@ -149,13 +165,68 @@ impl std::error::Error for Refusal {}
 mod tests {
     use super::Refusal;
 
+    /// A file of the repository.
+    fn text_of(name: &str) -> String {
+        std::fs::read_to_string(concat!(env!("CARGO_MANIFEST_DIR"), "/../").to_string() + name).unwrap()
+    }
+
+    /// What stands behind the line of a refusal, with # for each of its values.
+    fn sentence(number: u32) -> String {
+        let text = Refusal::of(number, [10007, 10009]).to_string();
+        text.split_once(": ").unwrap().1.replace("10007", "#").replace("10009", "#")
+    }
+
     #[test]
     fn each_number_has_its_case() {
         for n in 1..=20 {
             let r = Refusal::of(n, [7, 9]);
             assert_eq!(r.number(), n);
+            assert!(!matches!(r, Refusal::Other(_)));
             assert_eq!(r.place(), if [4, 7, 10, 11, 13, 20].contains(&n) { 7 } else { 0 });
-            assert!(r.to_string().starts_with(&format!("refused {n}: ")));
+            assert!(r.to_string().starts_with(&format!("refused {n} {}: ", r.place())));
         }
+    }
+
+    #[test]
+    fn a_number_of_a_newer_library_is_kept() {
+        for n in [0, 21, 26, u32::MAX] {
+            let r = Refusal::of(n, [7, 9]);
+            assert_eq!(r, Refusal::Other(n));
+            assert_eq!((r.number(), r.place()), (n, 0));
+            assert_eq!(r.to_string(), format!("refused {n} 0: a refusal of a newer version"));
+        }
+    }
+
+    /// The numbers of a row of the table of docs/FOR-READERS.md, and what is wrong; none of any other line.
+    fn told(line: &str) -> Vec<(u32, &str)> {
+        match line.split('|').map(str::trim).collect::<Vec<_>>()[..] {
+            ["", numbers, wrong, _, ""] => numbers.split(", ").filter_map(|n| Some((n.parse().ok()?, wrong))).collect(),
+            _ => vec![],
+        }
+    }
+
+    /// Of the table's sentence and this one's, one is a part of the other: the table has words on `recheck` alone, this one on calls without a sheet.
+    #[test]
+    fn sentences_are_those_for_readers() {
+        let page = text_of("docs/FOR-READERS.md").replace("10⁻⁶", "10^-6").replace("10⁹", "10^9").replace("PLACE", "#");
+        let table: Vec<_> = page.lines().flat_map(told).collect();
+        assert_eq!(table.len(), 15);
+        for (number, wrong) in table {
+            let ours = sentence(number);
+            assert!(wrong.contains(&ours) || ours.contains(wrong), "{number}: {ours} | {wrong}");
+        }
+    }
+
+    /// The quoted texts of the lines that end in one and a comma.
+    fn quoted(text: &str) -> Vec<&str> {
+        text.lines().filter_map(|line| Some(line.strip_suffix("\",")?.split_once('"')?.1)).collect()
+    }
+
+    /// The C header and the Python module of examples/ have a line for each number, in order.
+    #[test]
+    fn sentences_of_the_examples_are_these() {
+        let sentences: Vec<String> = (1..=20).map(sentence).collect();
+        assert_eq!(quoted(&text_of("examples/refusals.h")), sentences);
+        assert_eq!(quoted(&text_of("examples/refusals.py")), sentences);
     }
 }

@@ -1,5 +1,5 @@
 //! The shipped sheets of examples/sheets, and what the safe calls do with damaged bytes and too little room.
-use physica::{check_mesh, check_sheet, polyhedron, sheet_length, sheet_row, sheet_rows, write_sheet, write_sheet_into, Accepted, Body, Refusal, Row, Rows};
+use physica::{check_mesh, check_sheet, polyhedron, sheet_length, sheet_row, sheet_rows, write_sheet, write_sheet_into, Body, Refusal, Row, Rows};
 use std::path::PathBuf;
 
 const VERTS: [[f64; 3]; 4] = [[0.0, 0.0, 0.0], [1.0, 0.0, 0.0], [0.0, 1.0, 0.0], [0.0, 0.0, 1.0]];
@@ -16,11 +16,11 @@ fn folder() -> PathBuf {
     PathBuf::from(env!("CARGO_MANIFEST_DIR")).join("../examples/sheets")
 }
 
-/// The line that `recheck` prints.
-fn line(verdict: Result<Accepted, Refusal>) -> String {
-    match verdict {
+/// The line that `recheck` prints: a refusal's text up to its sentence.
+fn line(sheet: &[u8]) -> String {
+    match check_sheet(sheet) {
         Ok(a) => format!("accepted {} {}", a.kind, a.stations),
-        Err(r) => format!("refused {} {}", r.number(), r.place()),
+        Err(r) => r.to_string().split(':').next().unwrap().to_string(),
     }
 }
 
@@ -31,7 +31,7 @@ fn shipped_sheets_have_their_lines() {
     for row in expected.lines() {
         let (name, verdict) = row.split_once(' ').unwrap();
         let sheet = std::fs::read(folder().join(name)).unwrap();
-        assert_eq!(line(check_sheet(&sheet)), verdict, "{name}");
+        assert_eq!(line(&sheet), verdict, "{name}");
     }
 }
 
@@ -54,7 +54,7 @@ fn rows_are_those_of_the_single_calls() {
         let f = polyhedron(*p, &VERTS, &FACES, &mut work).unwrap();
         let anomaly = physica::body(f.hessian, MAGNETISATION).unwrap();
         let total = physica::total_field(AMBIENT, anomaly).unwrap();
-        assert_eq!(rows[i], Row { potential: f.potential, gradient: f.gradient, anomaly, total });
+        assert_eq!((rows[i].potential, rows[i].gradient, rows[i].anomaly, rows[i].total), (f.potential, f.gradient, anomaly, total));
         assert_eq!(sheet_row(&sheet, i), Some(rows[i]));
         assert_eq!(sheet_rows(&sheet)[64 * i..64 * i + 8], f.potential.to_le_bytes());
     }
@@ -77,12 +77,24 @@ fn too_little_room_is_refused_and_nothing_is_written() {
 }
 
 #[test]
-fn counts_over_their_limits_are_refused_before_anything_is_allocated() {
-    let stations = vec![[2.0, 0.25, 0.25]; 65_537];
-    assert_eq!(write_sheet(tetrahedron(), MAGNETISATION, AMBIENT, &stations), Err(Refusal::TooMany));
-    let faces = vec![[0, 1, 2]; 32_769];
-    assert_eq!(write_sheet(Body::Mesh { verts: &VERTS, faces: &faces }, MAGNETISATION, AMBIENT, &STATIONS), Err(Refusal::TooMany));
-    assert_eq!(sheet_length(4, 4, 2), 24 * 4 + 36 * 4 + 88 * 2 + 80);
+fn lengths_are_those_of_the_sheets() {
+    let prism = Body::Prism { min: [-1.0, -2.0, -3.0], max: [1.0, 2.0, 0.0] };
+    for (body, name) in [(tetrahedron(), "mesh.sheet"), (prism, "prism.sheet")] {
+        assert_eq!(body.sheet_length(2), Ok(std::fs::read(folder().join(name)).unwrap().len()), "{name}");
+    }
+    assert_eq!(tetrahedron().sheet_length(2), Ok(sheet_length(4, 4, 2)));
+    assert_eq!(prism.sheet_length(65_536), Ok(sheet_length(2, 0, 65_536)));
+}
+
+#[test]
+fn a_length_of_any_counts_is_given_or_refused() {
+    for stations in [65_537, usize::MAX / 88, usize::MAX / 88 + 1, usize::MAX] {
+        assert_eq!(tetrahedron().sheet_length(stations), Err(Refusal::TooMany));
+    }
+    let (verts, faces) = (vec![[0.5; 3]; 20_001], vec![[0, 1, 2]; 32_769]);
+    assert_eq!(Body::Mesh { verts: &verts, faces: &[] }.sheet_length(0), Err(Refusal::TooMany));
+    assert_eq!(Body::Mesh { verts: &[], faces: &faces }.sheet_length(0), Err(Refusal::TooMany));
+    assert_eq!(Body::Mesh { verts: &verts[1..], faces: &faces[1..] }.sheet_length(65_536), Ok(sheet_length(20_000, 32_768, 65_536)));
     assert_eq!(sheet_length(usize::MAX, 0, 0), usize::MAX);
     assert_eq!(sheet_length(usize::MAX / 24, usize::MAX / 36, 1), usize::MAX);
 }

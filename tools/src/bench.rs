@@ -1,5 +1,5 @@
-//! bench [TURNS] [--only GROUP,..] [FILE.obj ..]: times each call here and in the reference build, on the same inputs in one program, and prints a table for each group: call,
-//! inputs, the time of a call on both sides, their ratio. A time is the best of TURNS turns (default 30), taken in alternation; what is slow has fewer turns (`Bench::best`).
+//! bench [TURNS] [--only GROUP,..] [--rows TEXT] [FILE.obj ..]: times each call here and in the reference build, on the same inputs in one program, and prints a table for each group: call,
+//! inputs, the time of a call on both sides, their ratio. A time is the best of TURNS turns (default 30) or more, taken in alternation; what is short has more turns, what is slow fewer (`Bench::best`).
 //! With files the bodies are theirs, and the groups those over bodies.
 use both::*;
 use geopotential::{bodies, gauss_legendre, special};
@@ -31,14 +31,22 @@ impl Random {
 
 /// A turn of a part lasts about this long or more: short parts are repeated.
 const TURN: f64 = 2e-3;
+/// A row goes on for this many seconds at least: on a machine that is shared, other work slows a processor for tenths of a second on end, and a shorter row may lie within them.
+const LEAST: f64 = 1.0;
 /// After this many seconds no further turn begins, but for the first three.
 const SECONDS: f64 = 5.0;
 
 struct Bench {
     turns: usize,
+    /// What the inputs of a row must have in them.
+    rows: String,
 }
 
 impl Bench {
+    fn wanted(&self, inputs: &str) -> bool {
+        inputs.contains(&self.rows)
+    }
+
     /// The best time of each part, in seconds, taken in alternation.
     fn best<const N: usize>(&self, parts: [&dyn Fn(); N]) -> [f64; N] {
         let start = Instant::now();
@@ -53,8 +61,9 @@ impl Bench {
         // the calls that tell how long the parts are count as a turn only where all are long enough for one
         let long = reps == [1; N];
         let mut best = if long { first } else { [f64::MAX; N] };
-        for turn in long as usize..self.turns.max(1) {
-            if turn >= 3 && start.elapsed().as_secs_f64() > SECONDS {
+        for turn in long as usize.. {
+            let gone = start.elapsed().as_secs_f64();
+            if turn >= 3 && (gone > SECONDS || (turn >= self.turns && gone > LEAST)) {
                 break;
             }
             for k in 0..N {
@@ -66,6 +75,9 @@ impl Bench {
 
     /// Both sides on every input.
     fn row<I>(&self, call: &str, kind: &str, inputs: &[I], here: impl Fn(&I), reference: impl Fn(&I)) {
+        if !self.wanted(kind) {
+            return;
+        }
         // a call through a pointer for each input, lest one side be compiled into its loop
         let all = |f: &dyn Fn(&I)| black_box(inputs).iter().for_each(|i| f(i));
         let [a, b] = self.best([&|| all(&here), &|| all(&reference)]);
@@ -302,13 +314,16 @@ fn polyhedra(b: &Bench, all: &[Body], r: &mut Random) {
         let work = RefCell::new(vec![0; q.mesh.room]);
         for (kind, at) in [("near", NEAR), ("far", FAR)] {
             let ps = q.stations(r, at, at, if q.faces.len() > 1000 { 1 } else { 8 });
+            let (inputs, n) = (format!("{}, {kind}", q.name), ps.len() as f64);
+            if !b.wanted(&inputs) {
+                continue;
+            }
             let [call, check, whole, alone] = b.best([
                 &|| black_box(&ps).iter().for_each(|p| polyhedron(p, &q.mesh, &work)),
                 &|| check_mesh(&q.mesh, &work),
                 &|| black_box(&ps).iter().for_each(|p| { black_box(bodies::polyhedron(*p, &q.verts, &q.faces)); }),
                 &|| black_box(&ps).iter().for_each(|p| { black_box(q.field(*p)); }),
             ]);
-            let (inputs, n) = (format!("{}, {kind}", q.name), ps.len() as f64);
             line("polyhedron", &inputs, call / n, whole / n);
             line("polyhedron less check_mesh", &inputs, call / n - check, alone / n);
         }
@@ -359,6 +374,9 @@ fn profiles(b: &Bench, all: &[Body], r: &mut Random) {
     for q in all {
         for (kind, even, odd, n) in places(q) {
             let ps = q.stations(r, even, odd, n);
+            if !b.wanted(&inputs(q, kind, n)) {
+                continue;
+            }
             let lent = RefCell::new((vec![0; q.mesh.room], vec![0.0; 13 * n]));
             let [here, reference] = b.best([
                 &|| {
@@ -385,6 +403,9 @@ fn sheets(b: &Bench, all: &[Body], r: &mut Random) {
         let body = physica::Body::Mesh { verts: &q.verts, faces: q.triangles() };
         for (kind, even, odd, n) in places(q) {
             let ps = q.stations(r, even, odd, n);
+            if !b.wanted(&inputs(q, kind, n)) {
+                continue;
+            }
             let room = physica::sheet_length(q.verts.len(), q.faces.len(), n);
             let lent = RefCell::new((vec![0; q.mesh.room], vec![0; room]));
             let write = || {
@@ -422,6 +443,9 @@ fn checking(b: &Bench) {
     let rows = near.map(|(n, c)| (n, c, "near", 1.0)).into_iter().chain([1, 3, 17, 91].map(|n| (n, 1, "at 4 radii", 2.2))).chain([1, 3, 17].map(|n| (n, 1, "far", 9.0)));
     for (n, count, kind, scale) in rows {
         let q = Body::new("smooth", if n == 1 { tetrahedron() } else { sphere(n) });
+        if !b.wanted(&inputs(&q, kind, count)) {
+            continue;
+        }
         let body = physica::Body::Mesh { verts: &q.verts, faces: q.triangles() };
         let p: V3 = [1.1 * scale, 0.9 * scale, 1.2 * scale];
         let sheet = physica::write_sheet(body, MAGNETISATION, AMBIENT, &vec![p; count]).unwrap();
@@ -446,12 +470,13 @@ const GROUPS: [&str; 8] = ["numbers", "prisms", "magnetics", "meshes", "polyhedr
 const OVER_BODIES: [&str; 4] = ["meshes", "polyhedron", "profiles", "sheets"];
 
 fn main() {
-    let usage = format!("usage: bench [TURNS] [--only GROUP,..] [FILE.obj ..]; the groups are {}", GROUPS.join(", "));
-    let (mut turns, mut only, mut files) = (30, GROUPS.join(","), vec![]);
+    let usage = format!("usage: bench [TURNS] [--only GROUP,..] [--rows TEXT] [FILE.obj ..]; the groups are {}", GROUPS.join(", "));
+    let (mut turns, mut only, mut rows, mut files) = (30, GROUPS.join(","), String::new(), vec![]);
     let mut words = std::env::args().skip(1);
     while let Some(w) = words.next() {
         match w.as_str() {
             "--only" => only = words.next().unwrap_or_else(|| end(&usage)),
+            "--rows" => rows = words.next().unwrap_or_else(|| end(&usage)),
             _ if w.ends_with(".obj") => files.push(w),
             _ => turns = w.parse().unwrap_or_else(|_| end(&usage)),
         }
@@ -460,7 +485,7 @@ fn main() {
         end(&usage);
     }
     start();
-    let b = Bench { turns };
+    let b = Bench { turns, rows };
     let all = if files.is_empty() { made() } else { read(&files) };
     for group in GROUPS {
         if !only.split(',').any(|g| g == group) || !(files.is_empty() || OVER_BODIES.contains(&group)) {

@@ -1,4 +1,4 @@
--- The magnetic anomaly of any uniformly magnetised body, and what a total-field magnetometer reads of it.
+-- The magnetic anomaly of any uniformly magnetised body, and the total-field anomaly that it makes.
 pub mod Answers
 pub mod Limits
 pub mod Body

@@ -1,4 +1,4 @@
--- What a total-field magnetometer reads when an anomaly B adds to the ambient field F: |F + B| - |F|, as (2F·B + B²)/(|F + B| + |F|), which does not cancel, with the
+-- The total-field anomaly, by how much an anomaly B changes what a total-field magnetometer reads in the ambient field F: |F + B| - |F|, as (2F·B + B²)/(|F + B| + |F|), which does not cancel, with the
 -- roundings in the order of the Rust. Definitions only.
 use lib.Ieee.{Float}
 use Rattle.doubles.specs.Rounded.{_⊕_, _⊗_, _⊘_}

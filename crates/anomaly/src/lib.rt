@@ -1,5 +1,5 @@
-// The magnetic anomaly of any uniformly magnetised body, from its gravity by Poisson's relation, and what a total-field
-// magnetometer reads of it.
+// The magnetic anomaly of any uniformly magnetised body, from its gravity by Poisson's relation, and the total-field
+// anomaly that it makes.
 use newtonian::Hessian;
 use newtonian::Vector;
 use newtonian::dot;
@@ -84,9 +84,9 @@ pub fn body(hessian: Hessian, magnetisation: Vector) -> VectorAnswer
     VectorAnswer::Refused(Refusal::OutOfLimits)
 }
 
-// ---- a magnetometer's reading
+// ---- the total-field anomaly
 
-// The reading without the tests of refusal 3.
+// Without the tests of refusal 3.
 pub fn total_field_of(ambient: Vector, anomaly: Vector) -> f64
     ensures { λ r. ⌜ r ≡ totalFieldOf ambient anomaly ⌝ }
 {
@@ -94,7 +94,7 @@ pub fn total_field_of(ambient: Vector, anomaly: Vector) -> f64
     (2.0 * dot(ambient, anomaly) + dot(anomaly, anomaly)) / (norm(sum) + norm(ambient))
 }
 
-// What a total-field magnetometer reads (T) when an anomaly adds to the ambient field; or refused by 3.
+// The total-field anomaly (T): by how much an anomaly changes what a total-field magnetometer reads in the ambient field; or refused by 3.
 pub fn total_field(ambient: Vector, anomaly: Vector) -> NumberAnswer
     ensures { λ r. ⌜ numberAnswer r ≡ totalField ambient anomaly ⌝ }
 {

@@ -6,13 +6,13 @@ ghost use Rattle.sheet.specs.Checker.{parse};
 ghost use Rattle.sheet_readers.specs.Opened.{Opened};
 ghost use Rattle.checker_lists.specs.Stages.{indicesCause, listsCause, Room, Loaded};
 use checker_order::wrong_lists;
-use checker_scans::vector_at;
 use mesh::scan::no_such_vertex;
 use newtonian::vector_within_limits;
 use refusals::Cause;
 use refusals::Refusal;
 use sheet_layout::read_f64s;
 use sheet_layout::read_u32s;
+use sheet_readers::vector_at;
 
 fn read_lists(sheet: &[u8], verts: &mut [f64], faces: &mut [u32], order: &mut [u32])
     requires { ⌜ Room (now sheet) (length (now verts)) (length (now faces)) (length (now order)) ⌝ }

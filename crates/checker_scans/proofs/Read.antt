@@ -27,13 +27,7 @@ module _ (b : List ℕ) (at n : ℕ) where
 vectors : {x x′ y y′ z z′ : Float} → x ≡ x′ → y ≡ y′ → z ≡ z′ → _≡_ {A = Vector} (record { x = x; y = y; z = z }) (record { x = x′; y = y′; z = z′ })
 vectors p q r = cc
 
--- a vector, as the code reads it
-pub vector-read : (b : List ℕ) (at : ℕ)
-    → _≡_ {A = Vector} (record { x = ofBits binary64 (number 8 b at); y = ofBits binary64 (number 8 b (at + 8)); z = ofBits binary64 (number 8 b (at + 16)) }) (vectorIn b at)
-unfolding unpack
-vector-read b at = let e : at + 16 ≡ at + 8 + 8 = omega arith in vectors refl refl (ap (λ (i : ℕ). ofBits binary64 (number 8 b i)) e)
-
--- and a vertex or station of a list of n
+-- a vertex or station of a list of n
 pub vertex-read : (b : List ℕ) (at n i : ℕ) → i < n → vertex (doubles (unpack 8 (3 * n) b at)) i ≡ vectorIn b (at + 24 * i)
 unfolding unpack
 vertex-read b at n i h =

@@ -1,4 +1,4 @@
-// The checker's scans of a sheet's doubles: the stations' coordinates, the vectors, and a stored row beside a computed one.
+// The checker's scans of a sheet's doubles: the stations' coordinates, and a stored row beside a computed one.
 ghost use mathlib.Core.Path.{_≡_};
 ghost use Prim.Native.Nat.{_+_, _*_, _≤_};
 ghost use lib.ListN.{length};
@@ -6,10 +6,9 @@ ghost use Rattle.mesh.specs.Check.{outOfLimits};
 ghost use Rattle.sheet_layout.specs.LittleEndian.{unpack, bits, doubles};
 ghost use Rattle.sheet_rows.specs.Kinds.{rowWidth};
 ghost use Rattle.sheet_rows.specs.Row.{rowNumbers};
-ghost use Rattle.sheet.specs.Checker.{vectorIn, sameNumbers};
+ghost use Rattle.sheet.specs.Checker.{sameNumbers};
 use doubles::to_bits;
 use doubles::within_limits;
-use newtonian::Vector;
 use refusals::Cause;
 use refusals::Refusal;
 use sheet_layout::f64_at;
@@ -29,18 +28,6 @@ pub fn out_of_limits_at(sheet: &[u8], at: usize, n: usize) -> Cause
         i += 1;
     }
     Cause::None
-}
-
-// The three doubles from place at on.
-pub fn vector_at(sheet: &[u8], at: usize) -> Vector
-    requires { ⌜ at + 24 ≤ length (now sheet) ⌝ }
-    ensures { λ r. ⌜ r ≡ vectorIn (now (sheet .entry)) at ⌝ }
-{
-    Vector {
-        x: f64_at(sheet, at),
-        y: f64_at(sheet, at + 8),
-        z: f64_at(sheet, at + 16),
-    }
 }
 
 // Whether the doubles from place at on have the bits of xs.

@@ -14,12 +14,12 @@ ghost use Rattle.sheet_readers.specs.Opened.{Opened};
 ghost use Rattle.checker_lists.specs.Stages.{listsCause, Loaded, Ready};
 ghost use Rattle.checker_stations.specs.FieldIn.{fieldIn};
 ghost use Rattle.checker_stations.specs.Outcome.{refusedBy, stationsOutcome};
-use checker_scans::vector_at;
 use newtonian::Field;
 use newtonian::Vector;
 use polyhedron_blocks::STATIONS;
 use refusals::Cause;
 use refusals::Refusal;
+use sheet_readers::vector_at;
 use sheet_rows::Center;
 use sheet_rows::RowAnswer;
 

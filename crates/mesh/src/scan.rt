@@ -55,16 +55,26 @@ pub fn out_of_limits(numbers: &[f64]) -> Cause
     Cause::Refused(Refusal::OutOfLimits)
 }
 
-fn all_name_vertices(vertices: usize, faces: &[u32]) -> bool
+// Whether all corners are below a number of 32 bits, of which a packed instruction compares four.
+fn all_below(vertices: u32, faces: &[u32]) -> bool
     ensures { λ r. ⌜ (r ≡ true → noSuchVertex vertices (now (faces .entry)) ≡ None) ⌝ }
 {
     let mut all = true;
     let mut i = 0;
     while i < faces.len() {
-        all = both(all, (faces[i] as usize) < vertices);
+        all = both(all, faces[i] < vertices);
         i += 1;
     }
     all
+}
+
+fn all_name_vertices(vertices: usize, faces: &[u32]) -> bool
+    ensures { λ r. ⌜ (r ≡ true → noSuchVertex vertices (now (faces .entry)) ≡ None) ⌝ }
+{
+    if 0x1_0000_0000 <= vertices {
+        return false;
+    }
+    all_below(vertices as u32, faces)
 }
 
 // Cause 4: the face of the first corner that names none of the vertices. It is looked for only where there is one.

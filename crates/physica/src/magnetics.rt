@@ -25,7 +25,7 @@ pub extern "C" fn physica_body(
     give_vector(field, out)
 }
 
-// What a total-field magnetometer reads (T): 3.
+// The total-field anomaly (T): 3.
 #[no_mangle]
 pub extern "C" fn physica_total_field(ambient: &[f64; 3], anomaly: &[f64; 3], out: &mut f64) -> u32
     ensures { λ r. ⌜ Gives itself (totalField (vectorOf (now (ambient .entry))) (vectorOf (now (anomaly .entry)))) r (now (out .entry)) (now (out .exit)) ⌝ }

@@ -1,14 +1,19 @@
-// Sheets: writing, checking, and reading their rows.
+// Sheets: writing, checking, reading their trailer, stations and rows, and their length.
 ghost use mathlib.Core.Path.{_≡_};
 ghost use Prim.Native.Nat.{_+_, _-_};
 ghost use lib.ListN.{length, take, drop};
 ghost use Rattle.sheet.specs.Bytes.{trailerLength};
 ghost use Rattle.sheet.specs.Checker.{rowsPart, rowPart};
-ghost use Rattle.physica_lent.specs.Sheets.{sheetInput, WritesLent, ChecksLent, numbersGiven, rowAfter};
+ghost use Rattle.sheet_readers.specs.Parts.{stationPart, sheetTrailer, lengthOf};
+ghost use Rattle.physica_lent.specs.Exported.{Gives};
+ghost use Rattle.physica_lent.specs.Sheets.{sheetInput, WritesLent, ChecksLent, numbersGiven, rowAfter, coordinatesGiven, stationAfter, trailerCounts, trailerNumbers};
+use physica_lent::give::give_trailer;
 use physica_lent::give::give_verdict;
 use physica_lent::give::give_written;
 use physica_lent::take::row_numbers;
+use physica_lent::take::station_numbers;
 use physica_lent::take::vector_of;
+use sheet_readers::STATION_LENGTH;
 use sheet_rows::kinds::PLAIN_BYTES;
 use sheet_rows::kinds::PLAIN_WIDTH;
 
@@ -52,6 +57,34 @@ pub extern "C" fn physica_check_sheet(
     give_verdict(checker::check_sheet(sheet), found, values)
 }
 
+// What stands in the trailer: kind, V, F and S; magnetisation, ambient field and volume: 16, 1, 2.
+#[no_mangle]
+pub extern "C" fn physica_sheet_trailer(
+    sheet: &[u8],
+    counts: &mut [u32; 4],
+    numbers: &mut [f64; 7],
+) -> u32
+    ensures counts { λ r. ⌜ Gives trailerCounts (sheetTrailer (now (sheet .entry))) r (now (counts .entry)) (now (counts .exit)) ⌝ }
+    ensures numbers { λ r. ⌜ Gives trailerNumbers (sheetTrailer (now (sheet .entry))) r (now (numbers .entry)) (now (numbers .exit)) ⌝ }
+{
+    give_trailer(sheet_readers::sheet_trailer(sheet), counts, numbers)
+}
+
+// The coordinates of station i, and 3; or 0 where there is none.
+#[no_mangle]
+pub extern "C" fn physica_sheet_station(sheet: &[u8], i: usize, out: &mut [f64; 3]) -> usize
+    ensures count { λ r. ⌜ r ≡ coordinatesGiven (stationPart (now (sheet .entry)) i) ⌝ }
+    ensures out { λ _. ⌜ now (out .exit) ≡ stationAfter (stationPart (now (sheet .entry)) i) (now (out .entry)) ⌝ }
+{
+    let station = sheet_readers::sheet_station(sheet, i);
+    if station.len() < STATION_LENGTH {
+        return 0;
+    }
+    let numbers = station_numbers(station);
+    *out = numbers;
+    3
+}
+
 // How many bytes the rows take; they end where the trailer begins.
 #[no_mangle]
 pub extern "C" fn physica_sheet_rows(sheet: &[u8]) -> usize
@@ -75,4 +108,17 @@ pub extern "C" fn physica_sheet_row(sheet: &[u8], i: usize, out: &mut [f64; PLAI
     let numbers = row_numbers(row);
     *out = numbers;
     PLAIN_WIDTH
+}
+
+// The bytes of a sheet by its kind and counts; 0 where 1 or 2 refuses them.
+#[no_mangle]
+pub extern "C" fn physica_sheet_length(
+    kind: u32,
+    vertices: usize,
+    faces: usize,
+    stations: usize,
+) -> usize
+    ensures { λ r. ⌜ r ≡ lengthOf kind vertices faces stations ⌝ }
+{
+    sheet_readers::sheet_length(kind, vertices, faces, stations)
 }

@@ -1,11 +1,12 @@
 -- What the exported calls on sheets take, return and write. Definitions only.
 use mathlib.Core.Path.{_≡_}
 use mathlib.Core.Bool.{cond}
-use mathlib.Core.List.{List}
+use mathlib.Core.List.{List, [], _∷_, _++_}
 use Prim.Native.Nat.{ℕ, _*_}
 use lib.Dec.{leb}
 use lib.ListN.{length, getD, take}
 use lib.Ieee.{Float}
+use Rattle.newtonian.specs.Vectors.{vectorNumbers}
 use Rattle.mesh.specs.Check.{workAfter}
 use Rattle.sheet_layout.specs.LittleEndian.{unpack, doubles}
 use Rattle.sheet_rows.specs.Kinds.{plainWidth}
@@ -14,6 +15,7 @@ use Rattle.sheet.specs.Writer.{writerCause, outAfter}
 use Rattle.sheet.specs.Checker.{checkSheet}
 use Rattle.sheet.specs.Promises.{NoCause, Right, Kept}
 use Rattle.writer.specs.Written.{writeSheet}
+use Rattle.sheet_readers.specs.declared.TrailerFields.{TrailerFields}
 use Rattle.physica_lent.specs.Exported.{vectorOf, itself, GivesValues}
 
 -- ---- the writer
@@ -43,11 +45,35 @@ pub record ChecksLent (b : List ℕ) (r : ℕ) (n m vs : List ℕ) : Type 0 wher
   -- where it returns 0 the sheet is right, with the kind and S that it found
   pub right : r ≡ 0 → Right b (getD m 0 0) (getD m 1 0)
 
--- ---- a row, from the part of the sheet that it is, which is empty where there is none
+-- ---- n doubles from the part of a sheet that holds them, which is empty where there are none
 
--- how many of its numbers are handed out: those that every kind's row has
+-- how many are handed out
+abbrev pub doublesGiven : ℕ → List ℕ → ℕ
+doublesGiven n part = cond (leb (8 * n) (length part)) n 0
+
+abbrev pub doublesAfter : ℕ → List ℕ → List Float → List Float
+doublesAfter n part before = cond (leb (8 * n) (length part)) (doubles (unpack 8 n part 0)) before
+
+-- of a row, those that every kind's row has
 abbrev pub numbersGiven : List ℕ → ℕ
-numbersGiven part = cond (leb (8 * plainWidth) (length part)) plainWidth 0
+numbersGiven part = doublesGiven plainWidth part
 
 abbrev pub rowAfter : List ℕ → List Float → List Float
-rowAfter part before = cond (leb (8 * plainWidth) (length part)) (doubles (unpack 8 plainWidth part 0)) before
+rowAfter part before = doublesAfter plainWidth part before
+
+-- of a station, its coordinates
+abbrev pub coordinatesGiven : List ℕ → ℕ
+coordinatesGiven part = doublesGiven 3 part
+
+abbrev pub stationAfter : List ℕ → List Float → List Float
+stationAfter part before = doublesAfter 3 part before
+
+-- ---- the trailer
+
+-- kind, V, F and S
+abbrev pub trailerCounts : TrailerFields → List ℕ
+trailerCounts t = t .kind ∷ t .vertices ∷ t .faces ∷ t .stations ∷ []
+
+-- magnetisation, ambient field and volume
+abbrev pub trailerNumbers : TrailerFields → List Float
+trailerNumbers t = vectorNumbers (t .magnetisation) ++ vectorNumbers (t .ambient) ++ t .volume ∷ []

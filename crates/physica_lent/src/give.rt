@@ -9,8 +9,10 @@ ghost use Rattle.rings.specs.Answers.{completeAnswer, ringAnswer};
 ghost use Rattle.legendre.specs.Answers.{ruleAnswer};
 ghost use Rattle.writer.specs.Written.{writtenAnswer};
 ghost use Rattle.sheet.specs.Checker.{verdictAnswer};
+ghost use Rattle.sheet_readers.specs.Parts.{trailerAnswer};
 ghost use Rattle.newtonian.specs.Vectors.{vectorNumbers, fieldNumbers};
 ghost use Rattle.physica_lent.specs.Exported.{completeNumbers, ringNumbers, nodesOf, weightsOf, itself, two, Gives, GivesValues, GivesCause};
+ghost use Rattle.physica_lent.specs.Sheets.{trailerCounts, trailerNumbers};
 use anomaly::NumberAnswer;
 use anomaly::VectorAnswer;
 use carlson::Integral;
@@ -23,6 +25,7 @@ use refusals::number;
 use rings::CompleteIntegrals;
 use rings::RingAnswer;
 use sheet::Verdict;
+use sheet_readers::TrailerAnswer;
 use writer::Written;
 
 // The refusal's values, zeros after them.
@@ -196,6 +199,22 @@ pub fn give_verdict(a: Verdict, found: &mut [u32; 2], values: &mut [u32; 2]) -> 
             *values = v;
             number(r)
         }
+    }
+}
+
+pub fn give_trailer(a: TrailerAnswer, counts: &mut [u32; 4], numbers: &mut [f64; 7]) -> u32
+    ensures counts { λ n. ⌜ Gives trailerCounts (trailerAnswer a) n (now (counts .entry)) (now (counts .exit)) ⌝ }
+    ensures numbers { λ n. ⌜ Gives trailerNumbers (trailerAnswer a) n (now (numbers .entry)) (now (numbers .exit)) ⌝ }
+{
+    match a {
+        TrailerAnswer::Value(t) => {
+            let m = t.magnetisation;
+            let b = t.ambient;
+            *counts = [t.kind, t.vertices, t.faces, t.stations];
+            *numbers = [m.x, m.y, m.z, b.x, b.y, b.z, t.volume];
+            0
+        }
+        TrailerAnswer::Refused(r) => number(r),
     }
 }
 

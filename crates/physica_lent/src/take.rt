@@ -1,9 +1,10 @@
-// Vectors and matrices from lent numbers, and a row's numbers from lent bytes.
+// Vectors and matrices from lent numbers, and the numbers of a row and of a station from lent bytes.
 ghost use mathlib.Core.Path.{_≡_};
 ghost use Prim.Native.Nat.{_*_, _≤_};
 ghost use lib.ListN.{length};
 ghost use Rattle.sheet_layout.specs.LittleEndian.{unpack, doubles};
 ghost use Rattle.sheet_rows.specs.Kinds.{plainWidth};
+ghost use Rattle.sheet_readers.specs.Parts.{stationLength};
 ghost use Rattle.physica_lent.specs.Exported.{vectorOf, hessianOf};
 use newtonian::Hessian;
 use newtonian::Vector;
@@ -57,4 +58,15 @@ pub fn row_numbers(row: &[u8]) -> [f64; PLAIN_WIDTH]
     let bz = f64_at(row, 48);
     let total = f64_at(row, 56);
     [v, gx, gy, gz, bx, by, bz, total]
+}
+
+// The coordinates of a station.
+pub fn station_numbers(station: &[u8]) -> [f64; 3]
+    requires { ⌜ stationLength ≤ length (now station) ⌝ }
+    ensures { λ r. ⌜ r ≡ doubles (unpack 8 3 (now (station .entry)) 0) ⌝ }
+{
+    let x = f64_at(station, 0);
+    let y = f64_at(station, 8);
+    let z = f64_at(station, 16);
+    [x, y, z]
 }

@@ -1,14 +1,38 @@
-// What readers of a sheet use: the trailer's fields, where the parts begin, the causes 16, 1 and 2, and the rows as parts of the sheet.
+// What readers of a sheet use: the trailer's fields, where the parts begin, the causes 16, 1 and 2, stations and rows as
+// parts of the sheet, and how long a sheet is.
 ghost use mathlib.Core.Path.{_≡_};
-ghost use Prim.Native.Nat.{_*_, _≤_};
+ghost use Prim.Native.Nat.{_+_, _*_, _≤_};
 ghost use lib.ListN.{length};
 ghost use Rattle.sheet_rows.specs.Kinds.{rowWidth};
 ghost use Rattle.sheet.specs.Bytes.{trailerLength, pointerOf};
-ghost use Rattle.sheet.specs.Checker.{trailer, kindIn, verticesIn, facesIn, stationsIn, volumeIn, pointerIn, stationsStart, rowStart, wrongLength, openingCause, rowsPart, rowPart};
+ghost use Rattle.sheet.specs.Checker.{trailer, kindIn, verticesIn, facesIn, stationsIn, volumeIn, pointerIn, stationsStart, rowStart, vectorIn, wrongLength, openingCause, rowsPart, rowPart};
 ghost use Rattle.sheet_readers.specs.Opened.{Opened};
+ghost use Rattle.sheet_readers.specs.Parts.{stationStart, stationPart, trailerFields, sheetTrailer, trailerAnswer, lengthOf};
+use newtonian::Vector;
 use refusals::Cause;
 use refusals::Refusal;
 use sheet::TRAILER_LENGTH;
+use sheet_layout::f64_at;
+
+// The bytes of a station.
+pub const STATION_LENGTH: usize = 24;
+
+// All that stands in the trailer but the pointer.
+pub struct TrailerFields {
+    pub kind: u32,
+    pub vertices: u32,
+    pub faces: u32,
+    pub stations: u32,
+    pub magnetisation: Vector,
+    pub ambient: Vector,
+    pub volume: f64,
+}
+
+// What `sheet_trailer` answers.
+pub enum TrailerAnswer {
+    Value(TrailerFields),
+    Refused(Refusal),
+}
 
 // ---- the trailer
 
@@ -63,6 +87,34 @@ fn pointer(sheet: &[u8]) -> u64
     sheet_layout::u64_at(sheet, sheet.len() - TRAILER_LENGTH + 72)
 }
 
+// The three doubles from place at on.
+pub fn vector_at(sheet: &[u8], at: usize) -> Vector
+    requires { ⌜ at + 24 ≤ length (now sheet) ⌝ }
+    ensures { λ r. ⌜ r ≡ vectorIn (now (sheet .entry)) at ⌝ }
+{
+    Vector {
+        x: f64_at(sheet, at),
+        y: f64_at(sheet, at + 8),
+        z: f64_at(sheet, at + 16),
+    }
+}
+
+fn trailer_fields(sheet: &[u8]) -> TrailerFields
+    requires { ⌜ trailerLength ≤ length (now sheet) ⌝ }
+    ensures { λ r. ⌜ r ≡ trailerFields (now (sheet .entry)) ⌝ }
+{
+    let at = trailer(sheet);
+    TrailerFields {
+        kind: kind(sheet),
+        vertices: vertices(sheet),
+        faces: faces(sheet),
+        stations: stations(sheet),
+        magnetisation: vector_at(sheet, at + 16),
+        ambient: vector_at(sheet, at + 40),
+        volume: f64_at(sheet, at + 64),
+    }
+}
+
 // ---- lengths and places
 
 // The bytes of n rows.
@@ -88,6 +140,14 @@ pub fn stations_start(sheet: &[u8]) -> usize
     ensures { λ r. ⌜ r ≡ stationsStart (now (sheet .entry)) ⌝ }
 {
     24 * (vertices(sheet) as usize) + 36 * (faces(sheet) as usize)
+}
+
+// Where station i begins.
+fn station_start(sheet: &[u8], i: u32) -> usize
+    requires { ⌜ Opened (now sheet) ⌝ }
+    ensures { λ r. ⌜ r ≡ stationStart (now (sheet .entry)) i ⌝ }
+{
+    stations_start(sheet) + STATION_LENGTH * (i as usize)
 }
 
 // Where row i begins.
@@ -136,7 +196,35 @@ pub fn opening_cause(sheet: &[u8]) -> Cause
     Cause::None
 }
 
-// ---- the rows
+// ---- the trailer, the stations and the rows, for readers
+
+// The trailer: 16, 1, 2.
+pub fn sheet_trailer(sheet: &[u8]) -> TrailerAnswer
+    ensures { λ r. ⌜ trailerAnswer r ≡ sheetTrailer (now (sheet .entry)) ⌝ }
+{
+    let opening = opening_cause(sheet);
+    if let Cause::Refused(r) = opening {
+        return TrailerAnswer::Refused(r);
+    }
+    TrailerAnswer::Value(trailer_fields(sheet))
+}
+
+// Station i; nothing past the last, or where 16, 1 or 2 refuses.
+pub fn sheet_station(sheet: &[u8], i: usize) -> &[u8]
+    ensures { λ r. ⌜ now r ≡ stationPart (now (sheet .entry)) i ⌝ }
+{
+    let opening = opening_cause(sheet);
+    if let Cause::Refused(_) = opening {
+        return &sheet[0..0];
+    }
+    let count = stations(sheet) as usize;
+    if count <= i {
+        return &sheet[0..0];
+    }
+    let start = station_start(sheet, i as u32);
+    let end = start + STATION_LENGTH;
+    &sheet[start..end]
+}
 
 // The rows, from the first's first byte to the trailer; nothing where 16, 1 or 2 refuses.
 pub fn sheet_rows(sheet: &[u8]) -> &[u8]
@@ -165,4 +253,19 @@ pub fn sheet_row(sheet: &[u8], i: usize) -> &[u8]
     let start = row_start(sheet, i as u32);
     let end = start + rows_length(kind(sheet), 1);
     &sheet[start..end]
+}
+
+// ---- before there is a sheet
+
+// The bytes of a sheet by its kind and counts; 0 where 1 or 2 refuses them.
+pub fn sheet_length(kind: u32, vertices: usize, faces: usize, stations: usize) -> usize
+    ensures { λ r. ⌜ r ≡ lengthOf kind vertices faces stations ⌝ }
+{
+    if !sheet_rows::kinds::known_kind(kind, vertices, faces) {
+        return 0;
+    }
+    if !sheet_rows::kinds::within_counts(vertices, faces, stations) {
+        return 0;
+    }
+    pointer_of(kind, vertices as u32, faces as u32, stations as u32) + TRAILER_LENGTH
 }

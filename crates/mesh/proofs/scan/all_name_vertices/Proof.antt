@@ -1,59 +1,17 @@
--- `mesh::scan::all_name_vertices` meets its contract: whether the corners so far name vertices. Assumes nothing.
-use mathlib.Core.Path.{_≡_, sym, _∙_}
-use mathlib.Core.Bool.{true}
-use Prim.Native.Nat.{_-_, _/_, _≤_}
-use native.Mathlib.Omega.{arith}
-use lib.ListN.{length}
-use denote.Ref.{now}
-use Rattle.refusals.specs.declared.Refusal.the-variants.{NoSuchVertex}
-use Rattle.refusals.specs.declared.Cause.the-variants.{None}
-use Rattle.refusals.specs.Causes.{unless, firstOf}
-use Rattle.mesh.specs.Check.{namesVertex, noSuchVertex}
-use Rattle.mesh.proofs.Scans.{scan-start, all-more, scan-end}
+-- `mesh::scan::all_name_vertices` meets its contract: where there are more vertices than 32 bits count it says no. Assumes nothing.
+use mathlib.Core.Bool.{false≢true}
+use borrow.Author.Needs.{needs}
 use Rattle.mesh.proofs.scan.all_name_vertices.Statement.{statement}
 use Rattle.mesh.proofs.scan.all_name_vertices.Tie as tie
 
-abbrev Inv-loop : tie.InvT-loop
-Inv-loop vertices faces all₀ i₀ all i = (i ≤ length faces) × (all ≡ true → firstOf i (λ j. unless (namesVertex vertices faces j) (NoSuchVertex (j / 3))) ≡ None)
+returns : tie.Need-returns
+returns c e = absurd (false≢true e)
 
-abbrev μ-loop : tie.MeasureT-loop
-μ-loop vertices faces all₀ i₀ all i = length faces - i
+cast-all-below : tie.Need-cast-all-below
+cast-all-below c = search needs
 
-loop-holds : tie.Need-loop-holds Inv-loop μ-loop
-loop-holds c =
-    let a = c .before .args in
-    let f = now (a .faces) in
-    (omega arith, λ e. scan-start (length f) (namesVertex (a .vertices) f) (λ i. NoSuchVertex (i / 3)))
-
-cast-both : tie.Need-cast-both Inv-loop μ-loop
-cast-both c = omega (arith, c .shared-slice-known2 .given (c .before .before .loop .i))
-
-loop-again : tie.Need-loop-again Inv-loop μ-loop
-loop-again c =
-    let turn = c .before .before .before in
-    let a = turn .before .before .args in
-    let f = now (a .faces) in
-    (omega arith, λ e. all-more (length f) (namesVertex (a .vertices) f) (λ i. NoSuchVertex (i / 3)) (turn .loop .i) (turn .loop .all) (turn .loop .inv .1) (sym (c .both .ensures) ∙ e))
-
-returns : tie.Need-returns Inv-loop μ-loop
-unfolding noSuchVertex
-returns c e =
-    let a = c .before .before .before .args in
-    let f = now (a .faces) in
-    sym (scan-end (length f) (namesVertex (a .vertices) f) (λ i. NoSuchVertex (i / 3)) (c .before .loop .i) (omega arith) (omega arith) (c .before .loop .inv .1 e))
+returns-2 : tie.Need-returns-2
+returns-2 c = search needs
 
 pub all-name-vertices-spec : {M : Type 1} → statement M
-all-name-vertices-spec =
-    tie.close
-    (tie.spec
-    Inv-loop
-    μ-loop
-    loop-holds
-    (λ c. omega arith)
-    (λ c. omega arith)
-    cast-both
-    (λ c κs. tt)
-    (λ c. omega arith)
-    (λ c. omega arith)
-    loop-again
-    returns)
+all-name-vertices-spec = tie.close (tie.spec returns cast-all-below (λ c κs. tt) returns-2)
