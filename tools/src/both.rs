@@ -582,3 +582,40 @@ pub fn check_reference(b: &[u8], i: usize) -> Answer {
     numbers.extend(row.iter().map(|&x| bits(x)));
     Answer { number, values, numbers, work: vec![], out: rows.to_vec() }
 }
+
+/// Kind, V, F and S as they stand in the last bytes, of whatever these are the bytes.
+fn raw_counts(b: &[u8]) -> [u32; 4] {
+    match b.len().checked_sub(80) {
+        Some(t) => Reader(b).u32s(t, 4).try_into().unwrap(),
+        None => [1, b.len() as u32, 0, 0],
+    }
+}
+
+/// The trailer, station i, and the length by the counts.
+pub fn parts_here(b: &[u8], i: usize) -> Answer {
+    let (mut counts, mut numbers, mut station) = ([7; 4], [BEFORE; 7], [BEFORE; 3]);
+    let number = unsafe { ffi::physica_sheet_trailer(b.as_ptr(), b.len(), &mut counts, &mut numbers) };
+    let got = unsafe { ffi::physica_sheet_station(b.as_ptr(), b.len(), i, &mut station) };
+    let [kind, v, f, s] = raw_counts(b);
+    let length = unsafe { ffi::physica_sheet_length(kind, v as usize, f as usize, s as usize) };
+    parts(number, counts, &numbers, got, &station, length)
+}
+
+fn parts(number: u32, counts: [u32; 4], numbers: &[f64], got: usize, station: &[f64], length: usize) -> Answer {
+    let mut all: Vec<u64> = counts.iter().map(|&c| c as u64).chain([got as u64, length as u64]).collect();
+    all.extend(numbers.iter().chain(station).map(|&x| bits(x)));
+    Answer { number, values: [0, 0], numbers: all, work: vec![], out: vec![] }
+}
+
+pub fn parts_reference(b: &[u8], i: usize) -> Answer {
+    let [kind, v, f, s] = raw_counts(b).map(|c| c as usize);
+    let within = known_kind(kind as u32, v, f) && v <= 20_000 && f <= 32_768 && s <= 65_536;
+    let length = if within { sheet_length(v, f, s) } else { 0 };
+    let [_, v, f, n] = match opened(b) {
+        Ok(counts) => counts,
+        Err(number) => return parts(number, [7; 4], &[BEFORE; 7], 0, &[BEFORE; 3], length),
+    };
+    let r = Reader(b);
+    let (got, station) = if i < n { (3, r.f64s(24 * v + 36 * f + 24 * i, 3)) } else { (0, vec![BEFORE; 3]) };
+    parts(0, raw_counts(b), &r.f64s(b.len() - 64, 7), got, &station, length)
+}

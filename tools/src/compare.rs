@@ -416,6 +416,7 @@ fn refused_stations(r: &mut Random, table: &mut Table) {
 
 fn check(table: &mut Table, b: &[u8], i: usize) {
     table.add("check_sheet, sheet_rows, sheet_row", &check_here(b, i), &check_reference(b, i), || format!("{i} {b:?}"));
+    table.add("sheet_trailer, sheet_station, sheet_length", &parts_here(b, i), &parts_reference(b, i), || format!("{i} {b:?}"));
 }
 
 /// The sheet with the row of each station, zeros where there is none: made also where the writer refuses it.
