@@ -20,6 +20,7 @@ MAGNETISATION = (1.0, 2.0, -2.0)
 AMBIENT = (2e-5, 0.0, 4.5e-5)
 DOUBLE = ctypes.c_double
 WORD = ctypes.c_uint32
+POWERS = {1e-9: "10⁻⁹", 1e-6: "10⁻⁶", 1e6: "10⁶"}
 
 
 def dot(a, b):
@@ -361,10 +362,14 @@ def at_radii(radii):
     return station
 
 
+def written(x):
+    return POWERS.get(x, "%g" % x)
+
+
 def places(edges, heights, radii):
     """Pairs of a line's name and its maker of stations."""
-    return ([("%g off an edge" % h, off(h, 2)) for h in edges] + [("%g off a face" % h, off(h, 1)) for h in heights]
-            + [("%g radii" % r, at_radii(r)) for r in radii])
+    return ([(written(h) + " off an edge", off(h, 2)) for h in edges] + [(written(h) + " off a face", off(h, 1)) for h in heights]
+            + [(written(r) + " radii", at_radii(r)) for r in radii])
 
 
 # ---- tables
