@@ -1,5 +1,7 @@
 // The magnetic anomaly of any uniformly magnetised body, from its gravity by Poisson's relation, and the total-field
 // anomaly that it makes.
+#![tactic(auto)]
+
 ghost use Rattle.std.specs.Prelude.{◌≡◌};
 ghost use Rattle.anomaly.specs.Answers.{vectorAnswer, numberAnswer};
 ghost use Rattle.anomaly.specs.Body.{trace, row_times, body_of, body};
@@ -12,13 +14,13 @@ use refusals::Refusal;
 // μ₀/4π in T m/A.
 pub const C_M: f64 = 1e-7;
 
-#[derive(Drop)]
+#[derive(Clone, Copy)]
 pub enum VectorAnswer {
     Value(Vector),
     Refused(Refusal),
 }
 
-#[derive(Drop)]
+#[derive(Clone, Copy)]
 pub enum NumberAnswer {
     Value(f64),
     Refused(Refusal),

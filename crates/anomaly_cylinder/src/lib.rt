@@ -1,4 +1,6 @@
 // The magnetic anomaly of a uniformly magnetised infinite cylinder.
+#![tactic(auto)]
+
 ghost use Rattle.std.specs.Prelude.{◌≡◌};
 ghost use Rattle.anomaly.specs.Answers.{vectorAnswer};
 ghost use Rattle.anomaly_cylinder.specs.Cylinder.{times_vector, minus_times, projector, cylinder_inside, line_row, cylinder_outside, cylinder_hessian, cylinder_of, cylinder_within_limits, cylinder};

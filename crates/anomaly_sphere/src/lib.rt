@@ -1,4 +1,6 @@
 // The magnetic anomaly of a uniformly magnetised sphere.
+#![tactic(auto)]
+
 ghost use Rattle.std.specs.Prelude.{◌≡◌};
 ghost use Rattle.anomaly.specs.Answers.{vectorAnswer};
 ghost use Rattle.anomaly_sphere.specs.Sphere.{dipole_row, sphere_outside, sphere_hessian, sphere_of, sphere_within_limits, sphere};

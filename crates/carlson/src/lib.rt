@@ -1,4 +1,6 @@
 // Carlson's R_C, and ln, atan and atan2 by it.
+#![tactic(auto)]
+
 ghost use Rattle.std.specs.Prelude.{◌≡◌, ◌*◌, ◌^◌, ◌<◌, T};
 ghost use Rattle.std.specs.Float.{binary64};
 ghost use Rattle.std.specs.Float.Ieee.{of_int, minus};
@@ -23,7 +25,7 @@ pub const RC_FACTOR: f64 = f64::from_bits(0x4053_b957_8eb0_bf54);
 pub const LN_2: f64 = 0.6931471805599453;
 
 // What the duplication of R_C carries from round to round: Carlson's x, y and A at round n, f = 4^-n, and n.
-#[derive(Drop)]
+#[derive(Clone, Copy)]
 pub struct RoundC {
     pub x: f64,
     pub y: f64,
@@ -33,7 +35,7 @@ pub struct RoundC {
 }
 
 // The answer of an elliptic integral. An inner call is refused by 15 alone.
-#[derive(Drop)]
+#[derive(Clone, Copy)]
 pub enum Integral {
     Value(f64),
     Refused(Refusal),

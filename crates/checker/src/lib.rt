@@ -1,4 +1,6 @@
 // `check_sheet`: is every byte of a sheet what the definitions give? The opening here; the lists, the body and the stations in `checker_rooms`, in room for the body's size.
+#![tactic(auto)]
+
 ghost use Rattle.std.specs.Prelude.{◌≡◌, ℕ};
 ghost use Rattle.sheet.specs.Checker.{verdict_answer, checkSheet};
 ghost use Rattle.sheet.specs.Promises.{Right};

@@ -1,4 +1,6 @@
 // The checker's stage after the lists: the causes 7 and 8 of a mesh or 9 of a prism, and 19.
+#![tactic(auto)]
+
 ghost use Rattle.std.specs.Prelude.{◌≡◌};
 ghost use Rattle.mesh.specs.Check.{solid_of};
 ghost use Rattle.sheet.specs.Bytes.{volume};

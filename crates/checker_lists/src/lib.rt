@@ -1,4 +1,6 @@
 // The checker's first stage after the opening: reads a sheet's lists, and tries the causes 3, 4, 17 and 18.
+#![tactic(auto)]
+
 ghost use Rattle.std.specs.Prelude.{◌≡◌, length};
 ghost use Rattle.sheet.specs.Writer.{out_of_limits};
 ghost use Rattle.sheet.specs.Checker.{parse};

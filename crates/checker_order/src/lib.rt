@@ -1,4 +1,6 @@
 // The checker's scans of a sheet's order list and mates, once the order list is read.
+#![tactic(auto)]
+
 ghost use Rattle.std.specs.Prelude.{◌≡◌, true, ◌&&◌, ◌||◌, ◌+◌, ◌*◌, ◌%◌, ◌≤◌, ◌<◌, eqb, ltb, length, get_or};
 ghost use Rattle.refusals.specs.Causes.{or_else};
 ghost use Rattle.mesh_orders.specs.Edges.{max_faces, edge_number, edge, IsUse};

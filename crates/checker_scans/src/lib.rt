@@ -1,4 +1,6 @@
 // The checker's scans of a sheet's doubles: the stations' coordinates, and a stored row beside a computed one.
+#![tactic(auto)]
+
 ghost use Rattle.std.specs.Prelude.{◌≡◌, ◌+◌, ◌*◌, ◌≤◌, length};
 ghost use Rattle.mesh.specs.Check.{out_of_limits};
 ghost use Rattle.sheet_layout.specs.LittleEndian.{unpack, bits, doubles};

@@ -1,4 +1,6 @@
 // The checker's last stage: station by station the causes 10 or 11, 13, 20.
+#![tactic(auto)]
+
 ghost use Rattle.std.specs.Prelude.{◌≡◌, ℕ, ◌+◌, ◌≤◌, ◌<◌, get_or};
 ghost use Rattle.refusals.specs.Causes.{first_of};
 ghost use Rattle.refusals.specs.declared.Cause.TheVariants.{None};
@@ -20,7 +22,7 @@ use sheet_readers::vector_at;
 use sheet_rows::{Center, RowAnswer};
 
 // What the stations' check hands up: the first cause, or none.
-#[derive(Drop)]
+#[derive(Clone, Copy)]
 pub struct Outcome {
     pub cause: Cause,
 }

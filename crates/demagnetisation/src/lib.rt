@@ -1,4 +1,6 @@
 // Demagnetising factors of an ellipsoid, the magnetisation that they allow, and the Königsberger ratio.
+#![tactic(auto)]
+
 ghost use Rattle.std.specs.Prelude.{◌≡◌};
 ghost use Rattle.anomaly.specs.Answers.{vectorAnswer, numberAnswer};
 ghost use Rattle.demagnetisation.specs.Ellipsoid.{factor, together, factors_of, all_positive, ellipsoid_factors};

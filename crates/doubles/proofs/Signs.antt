@@ -100,9 +100,9 @@ neg-round f s a c =
 -- ---- a whole number as a float
 
 -- a cast of a number of 53 digits is exact
-pub in_float : (n : ℕ) → n < 2 ^ 53 → T (in_float binary64 (pos n))
+pub in_float_lem : (n : ℕ) → n < 2 ^ 53 → T (in_float binary64 (pos n))
 unfolding in_float
-in_float n h = le→leb n (2 ^ 53) (le_of_lt h)
+in_float_lem n h = le→leb n (2 ^ 53) (le_of_lt h)
 
 -- a - b, for a below b, is -(b - a)
 pub minus_neg : (f : Format) (a b : ℕ) → a < b → neg (of_int f (pos (b - a))) ≡ of_int f (minus a b)

@@ -1,4 +1,6 @@
 // Constants; bits, magnitude, sign, order and finiteness of an f64, on every bit pattern.
+#![tactic(auto)]
+
 ghost use Rattle.std.specs.Prelude.{◌≡◌, not, T};
 ghost use Rattle.std.specs.Float.{binary64};
 ghost use Rattle.std.specs.Float.Ieee.{is_nan, of_bits, to_bits};

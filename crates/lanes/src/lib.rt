@@ -1,6 +1,8 @@
 // Several numbers side by side, the lanes of an array: a choice without a branch, and roots. A loop over the lanes of a fixed array, with
 // one body for all of them, is what the compiler makes packed instructions of. A width is a type; so each stands in code of its own:
 // `eight` and `twenty_four` have the loops towards roots, and `lane` what is done in one lane.
+#![tactic(auto)]
+
 ghost use Rattle.std.specs.Prelude.{◌≡◌, ℕ, length, if◌then◌else◌};
 ghost use Rattle.roots.specs.Root.{Root};
 ghost use Rattle.lanes.specs.Lanes.{lane, Lanes};

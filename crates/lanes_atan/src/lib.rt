@@ -1,4 +1,6 @@
 // atan of 24 numbers side by side.
+#![tactic(auto)]
+
 ghost use Rattle.std.specs.Prelude.{◌≡◌, ℕ, length};
 ghost use Rattle.doubles.specs.Rounded.{◌⊕◌, ◌⊗◌};
 ghost use Rattle.doubles.specs.Constants.{1·0};

@@ -1,4 +1,6 @@
 // atan2 of eight pairs of numbers side by side.
+#![tactic(auto)]
+
 ghost use Rattle.std.specs.Prelude.{◌≡◌, true, ℕ, ◌<◌, length};
 ghost use Rattle.std.specs.Float.Ieee.{le};
 ghost use Rattle.doubles.specs.Rounded.{◌⊕◌, ◌⊗◌, ◌⊘◌};

@@ -1,4 +1,6 @@
 // ln of 24 numbers side by side.
+#![tactic(auto)]
+
 ghost use Rattle.std.specs.Prelude.{◌≡◌, true, ℕ, ◌<◌, length};
 ghost use Rattle.carlson.specs.Logarithm.{ln};
 ghost use Rattle.lanes.specs.Lanes.{lane, Lanes};

@@ -1,4 +1,6 @@
 // Carlson's R_C of several numbers side by side: what one lane asks for. The crates lanes_rc_8 and lanes_rc_24 have the loops over lanes.
+#![tactic(auto)]
+
 ghost use Rattle.std.specs.Prelude.{◌≡◌, cond};
 ghost use Rattle.doubles.specs.Rounded.{◌⊕◌, ◌⊗◌};
 ghost use Rattle.doubles.specs.Constants.{2·0};

@@ -1,4 +1,6 @@
 // Carlson's R_C of 24 numbers side by side. The lanes go through the loop together; one whose test fails stays as it is.
+#![tactic(auto)]
+
 ghost use Rattle.std.specs.Prelude.{◌≡◌, false, ℕ, ◌<◌, length};
 ghost use Rattle.carlson.specs.CarlsonLoop.{loop_test};
 ghost use Rattle.carlson.specs.Rc.{A₀C, QC};

@@ -1,4 +1,6 @@
 // Gauss-Legendre quadrature on [-1, 1]: the nodes and weights of an order from 1 to 16.
+#![tactic(auto)]
+
 mod table;
 
 ghost use Rattle.std.specs.Prelude.{◌≡◌, ◌+◌, ◌≤◌, length};
@@ -16,7 +18,7 @@ const ENTRIES: usize = MAX_ORDER * (MAX_ORDER + 1);
 
 // count nodes, ascending, and as many weights, with zeros after them; or the cause of a refusal,
 // with the count 0.
-#[derive(Drop)]
+#[derive(Clone, Copy)]
 pub struct Rule {
     pub cause: Cause,
     pub count: usize,

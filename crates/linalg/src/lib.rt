@@ -1,11 +1,13 @@
 // Gaussian elimination with partial pivoting, for three rows.
+#![tactic(auto)]
+
 ghost use Rattle.std.specs.Prelude.{◌≡◌};
 ghost use Rattle.linalg.specs.Gauss.{rows_of, takes, pivot_x, pivot_y, without_x, without_y, eliminate_x, eliminate_y, back_substituted, gauss};
 
 use newtonian::Vector;
 
 // The equation whose left side has the entries x, y and z.
-#[derive(Drop)]
+#[derive(Clone, Copy)]
 pub struct Row {
     pub x: f64,
     pub y: f64,
@@ -13,7 +15,7 @@ pub struct Row {
     pub right: f64,
 }
 
-#[derive(Drop)]
+#[derive(Clone, Copy)]
 pub struct Rows {
     pub first: Row,
     pub second: Row,

@@ -36,6 +36,6 @@ module _ (v : List Float) (f : List ℕ) (n : ℕ) where
     pub many-faces : vertex_count v ≤ max_vertices → max_faces < face_count f → Refused TooMany ≡ count_cause v f n
     many-faces m l = refuse-many (ap₂ (λ (a b : Bool). a && b) (le-leb (vertex_count v) max_vertices m) (lt-leb (face_count f) max_faces l))
 
-    pub too_short : vertex_count v ≤ max_vertices → face_count f ≤ max_faces → n < length f → Refused TooShort ≡ count_cause v f n
+    pub too_short_lem : vertex_count v ≤ max_vertices → face_count f ≤ max_faces → n < length f → Refused TooShort ≡ count_cause v f n
     unfolding count_cause too_short
-    too_short a b l = rw (malformed-none v f p q, many-none v f a b, lt-leb (length f) n l)
+    too_short_lem a b l = rw (malformed-none v f p q, many-none v f a b, lt-leb (length f) n l)

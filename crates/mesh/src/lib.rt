@@ -1,4 +1,6 @@
 // The parts of `check_mesh`: its answer, the counts, the scans, and normals and volume.
+#![tactic(auto)]
+
 pub mod scan;
 pub mod surface;
 
@@ -9,7 +11,7 @@ use mesh_orders::edges::{MAX_FACES, MAX_VERTICES};
 use refusals::{Cause, Refusal};
 
 // What the check of a solid, a mesh or a prism, answers: the volume, or the refusal.
-#[derive(Drop)]
+#[derive(Clone, Copy)]
 pub enum Solid {
     Volume(f64),
     Refused(Refusal),

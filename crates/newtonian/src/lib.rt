@@ -1,4 +1,6 @@
 // The field record; a field or its refusal; vectors of three doubles; a mass point's field.
+#![tactic(auto)]
+
 ghost use Rattle.std.specs.Prelude.{◌≡◌};
 ghost use Rattle.roots.specs.Root.{Root};
 ghost use Rattle.newtonian.specs.Vectors.{difference, dot, norm, cross, over, diagonal, add_vectors, add_fields, zero_field, vector_within_limits, field_numbers};
@@ -9,7 +11,7 @@ use refusals::Refusal;
 // How many numbers a field has.
 pub const FIELD_SIZE: usize = 13;
 
-#[derive(Drop)]
+#[derive(Clone, Copy)]
 pub struct Vector {
     pub x: f64,
     pub y: f64,
@@ -17,7 +19,7 @@ pub struct Vector {
 }
 
 // A matrix by its rows: of a field, the second derivatives of its potential.
-#[derive(Drop)]
+#[derive(Clone, Copy)]
 pub struct Hessian {
     pub x: Vector,
     pub y: Vector,
@@ -26,7 +28,7 @@ pub struct Hessian {
 
 // The field of a body at a station, at unit Gρ: the potential V = ∫dV/r, its gradient, which is the attraction and points
 // at the body, and its Hessian, the gravity-gradient tensor.
-#[derive(Drop)]
+#[derive(Clone, Copy)]
 pub struct Newtonian {
     pub potential: f64,
     pub gradient: Vector,
@@ -34,7 +36,7 @@ pub struct Newtonian {
 }
 
 // The field, or a refusal.
-#[derive(Drop)]
+#[derive(Clone, Copy)]
 pub enum Field {
     At(Newtonian),
     Refused(Refusal),

@@ -1,3 +1,5 @@
 // Between numbers that a caller in C lends and the calls' own types.
+#![tactic(auto)]
+
 pub mod give;
 pub mod take;

@@ -1,4 +1,6 @@
 // The field of a closed polyhedron of triangles.
+#![tactic(auto)]
+
 ghost use Rattle.std.specs.Prelude.{◌≡◌, length};
 ghost use Rattle.newtonian.specs.Field.{answer_of};
 ghost use Rattle.mesh_orders.specs.Order.{order_list};

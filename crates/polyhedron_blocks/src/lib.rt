@@ -1,5 +1,7 @@
 // The states of a block of eight stations over which the faces are walked once: for each station the field so far, and the
 // edges that gave a logarithm that is not finite.
+#![tactic(auto)]
+
 ghost use Rattle.std.specs.Prelude.{◌≡◌, [], ℕ, ◌*◌, ◌<◌, length, get_or};
 ghost use Rattle.polyhedron_on_edge.specs.OnEdge.{edge_limit};
 ghost use Rattle.polyhedron_blocks.specs.Blocks.{block_size};

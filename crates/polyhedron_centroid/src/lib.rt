@@ -1,4 +1,6 @@
 // The centroid and the radius of a polyhedron, over its used vertices.
+#![tactic(auto)]
+
 ghost use Rattle.std.specs.Prelude.{◌≡◌, ◌*◌, ◌<◌};
 ghost use Rattle.doubles.specs.Constants.{0·0};
 ghost use Rattle.mesh_orders.specs.Edges.{max_faces};
@@ -9,7 +11,7 @@ ghost use Rattle.polyhedron_centroid.specs.Centroid.{over_used, no_tally, add_ve
 use newtonian::{Vector, difference};
 
 // How many vertices, and their sum.
-#[derive(Drop)]
+#[derive(Clone, Copy)]
 pub struct Tally {
     pub count: u32,
     pub sum: Vector,

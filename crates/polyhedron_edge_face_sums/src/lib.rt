@@ -1,4 +1,6 @@
 // The field of a polyhedron near it, by the edge and face sums of Werner & Scheeres (1997): a range of faces, face by face, and what the sums of all faces end in.
+#![tactic(auto)]
+
 ghost use Rattle.std.specs.Prelude.{◌≡◌, List, ℕ, ◌+◌, ◌≤◌, ◌<◌, Float};
 ghost use Rattle.newtonian.specs.Field.{answer_of};
 ghost use Rattle.mesh.specs.Surface.{Body, face_count};
@@ -15,7 +17,7 @@ use polyhedron_on_edge::{BLOCK, EDGE_LIMIT};
 use refusals::Refusal;
 
 // What of a face does not depend on the station: its corners, its unit normal and its sides.
-#[derive(Drop)]
+#[derive(Clone, Copy)]
 pub struct Triangle {
     pub a: Vector,
     pub b: Vector,
@@ -27,7 +29,7 @@ pub struct Triangle {
 }
 
 // The field so far, and the number of edges in the lent block.
-#[derive(Drop)]
+#[derive(Clone, Copy)]
 pub struct Running {
     pub field: Newtonian,
     pub count: usize,

@@ -1,4 +1,6 @@
 // What one face and one edge of a polyhedron add to the field, by the edge and face sums of Werner & Scheeres (1997).
+#![tactic(auto)]
+
 ghost use Rattle.std.specs.Prelude.{◌≡◌};
 ghost use Rattle.polyhedron_edge_terms.specs.Corners.{unit, side_of, seen};
 ghost use Rattle.polyhedron_edge_terms.specs.SolidAngle.{passes_through, winding_angle, solid_angle};
@@ -7,7 +9,7 @@ ghost use Rattle.polyhedron_edge_terms.specs.EdgeTerms.{gap, logarithm, dyad, ve
 use newtonian::{Hessian, Newtonian, Vector, cross, difference, dot};
 
 // A side of a face, from one vertex to the next: its unit normal in the face's plane and its length.
-#[derive(Drop)]
+#[derive(Clone, Copy)]
 pub struct Side {
     pub from: u32,
     pub to: u32,
@@ -16,7 +18,7 @@ pub struct Side {
 }
 
 // A corner seen from the station: its offset and its distance.
-#[derive(Drop)]
+#[derive(Clone, Copy)]
 pub struct Corner {
     pub r: Vector,
     pub l: f64,

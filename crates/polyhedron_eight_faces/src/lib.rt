@@ -1,4 +1,6 @@
 // Eight faces side by side, added in order to the field of a station. Corner or side j of face k stands at 8 j + k.
+#![tactic(auto)]
+
 ghost use Rattle.std.specs.Prelude.{◌≡◌, true, ℕ, ◌<◌, ◌≤◌};
 ghost use Rattle.newtonian.specs.Fold.{Fold};
 ghost use Rattle.polyhedron_edge_terms.specs.EdgeTerms.{dyad};
@@ -95,7 +97,7 @@ fn add_faces(
 }
 
 // A field with some faces, where `clear`: the logarithms are finite, and the station lies in no face's plane.
-#[derive(Drop)]
+#[derive(Clone, Copy)]
 pub struct Added {
     pub clear: bool,
     pub field: Newtonian,

@@ -1,4 +1,6 @@
 // Eight faces side by side, in flat arrays: corner or side j of the face in lane k stands at 8 j + k.
+#![tactic(auto)]
+
 ghost use Rattle.std.specs.Prelude.{◌≡◌, ℕ, ◌+◌, ◌%◌, ◌<◌, length};
 ghost use Rattle.newtonian.specs.Vectors.{norm, over};
 ghost use Rattle.polyhedron_edge_terms.specs.Corners.{unit};

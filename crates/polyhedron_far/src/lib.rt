@@ -1,4 +1,6 @@
 // The far fields of a block of eight stations, with one walk over the faces for all of them: a face's points are made once.
+#![tactic(auto)]
+
 ghost use Rattle.std.specs.Prelude.{◌≡◌, true, false, List, ℕ, ◌+◌, ◌≤◌, ◌<◌, Float, length, get_or};
 ghost use Rattle.newtonian.specs.Fold.{Fold};
 ghost use Rattle.newtonian.specs.Vectors.{field_numbers};

@@ -1,4 +1,6 @@
 // The field of a tetrahedron's points at eight stations side by side: number q of station k's field stands in lane 8 q + k.
+#![tactic(auto)]
+
 ghost use Rattle.std.specs.Prelude.{◌≡◌, ℕ, ◌+◌, ◌≤◌, ◌<◌, length};
 ghost use Rattle.roots.specs.Root.{Root};
 ghost use Rattle.newtonian.specs.Vectors.{difference, zero_field};

@@ -1,4 +1,6 @@
 // The far field of a body at one station: the points of each face's tetrahedron, and their field.
+#![tactic(auto)]
+
 ghost use Rattle.std.specs.Prelude.{◌≡◌, ◌<◌};
 ghost use Rattle.newtonian.specs.Fold.{Fold};
 ghost use Rattle.mesh.specs.Surface.{Body, face_count};

@@ -1,4 +1,6 @@
 // The points of a tetrahedron and their weights, made once for all stations that are far from it, and their field at one station.
+#![tactic(auto)]
+
 ghost use Rattle.std.specs.Prelude.{◌≡◌, ℕ, ◌+◌, ◌*◌, ◌≤◌, ◌<◌, length};
 ghost use Rattle.roots.specs.Root.{Root};
 ghost use Rattle.newtonian.specs.Fold.{Fold};

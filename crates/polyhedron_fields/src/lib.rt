@@ -1,4 +1,6 @@
 // The fields of a checked mesh at up to eight stations. The faces are walked once for all of them, by groups of eight faces, for near and far stations together.
+#![tactic(auto)]
+
 ghost use Rattle.std.specs.Prelude.{◌≡◌, true, false, List, ℕ, ◌+◌, ◌/◌, ◌≤◌, ◌<◌, Float, length, get_or};
 ghost use Rattle.newtonian.specs.Field.{answer_of};
 ghost use Rattle.newtonian.specs.declared.Vector.{Vector};

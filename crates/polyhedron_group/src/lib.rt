@@ -1,4 +1,6 @@
 // Eight faces of a mesh side by side, from a face on: corner or side j of the face in lane k stands at 8 j + k.
+#![tactic(auto)]
+
 ghost use Rattle.std.specs.Prelude.{◌≡◌, ℕ, ◌+◌, ◌/◌, ◌%◌, ◌≤◌, ◌<◌, min, length};
 ghost use Rattle.newtonian.specs.Vectors.{over};
 ghost use Rattle.mesh_orders.specs.Edges.{max_faces};

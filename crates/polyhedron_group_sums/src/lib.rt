@@ -1,4 +1,6 @@
 // A group of up to eight faces, added to the state of a station: by lanes, or face by face.
+#![tactic(auto)]
+
 ghost use Rattle.std.specs.Prelude.{◌≡◌, true, ℕ, ◌+◌, ◌≤◌};
 ghost use Rattle.mesh.specs.Surface.{Body, face_count};
 ghost use Rattle.polyhedron_on_edge.specs.Block.{Sized};

@@ -1,5 +1,7 @@
 // The logarithms of the sides of eight faces side by side, as a station sees them. Corner j of face k, and the side from there
 // to the face's next corner, stand at 8 j + k.
+#![tactic(auto)]
+
 ghost use Rattle.std.specs.Prelude.{◌≡◌, true, ℕ, ◌<◌, length};
 ghost use Rattle.std.specs.Float.Ieee.Scale.{finite};
 ghost use Rattle.lanes.specs.Lanes.{lane, Lanes};

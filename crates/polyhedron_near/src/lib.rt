@@ -1,4 +1,6 @@
 // The near field of one station, by the edge and face sums of Werner & Scheeres (1997): the faces by groups of eight.
+#![tactic(auto)]
+
 ghost use Rattle.std.specs.Prelude.{◌≡◌, ℕ, ◌+◌, ◌≤◌};
 ghost use Rattle.newtonian.specs.Field.{answer_of};
 ghost use Rattle.mesh.specs.Surface.{Body, face_count};

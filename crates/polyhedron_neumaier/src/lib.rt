@@ -1,4 +1,6 @@
 // Neumaier's compensated summation, for the thirteen numbers of a field at once.
+#![tactic(auto)]
+
 ghost use Rattle.std.specs.Prelude.{◌≡◌, ◌+◌, ◌<◌};
 ghost use Rattle.newtonian.specs.Vectors.{field_size};
 ghost use Rattle.polyhedron_neumaier.specs.Neumaier.{add_term, add_terms, no_sums, total_at, total_vector, totals};
@@ -6,7 +8,7 @@ ghost use Rattle.polyhedron_neumaier.specs.Neumaier.{add_term, add_terms, no_sum
 use newtonian::{FIELD_SIZE, Hessian, Newtonian, Vector};
 
 // A sum, and what its roundings have lost.
-#[derive(Drop)]
+#[derive(Clone, Copy)]
 pub struct Pair {
     pub sum: f64,
     pub carry: f64,

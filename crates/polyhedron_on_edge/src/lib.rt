@@ -1,5 +1,7 @@
 // The edges that give a logarithm that is not finite: keys, nine numbers for each, and a count, in arrays that the caller
 // lends.
+#![tactic(auto)]
+
 ghost use Rattle.std.specs.Prelude.{◌≡◌, List, ℕ, ◌+◌, ◌*◌, ◌<◌, ◌≤◌};
 ghost use Rattle.lists.specs.First.{IsFirst};
 ghost use Rattle.polyhedron_on_edge.specs.OnEdge.{edge_limit, edge_key, Edge, add_matrices, add_dyad, infinite_entry, infinite_row, infinite_entries, add_infinite};

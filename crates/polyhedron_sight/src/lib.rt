@@ -1,5 +1,7 @@
 // What a station sees of eight faces side by side: the offsets of the corners, the logarithms of the sides and the solid
 // angles. Corner j of face k, and the side from there to the face's next corner, stand at 8 j + k.
+#![tactic(auto)]
+
 ghost use Rattle.std.specs.Prelude.{◌≡◌, true, ℕ, length};
 ghost use Rattle.newtonian.specs.declared.Vector.{Vector};
 ghost use Rattle.lanes.specs.Lanes.{Lanes};

@@ -1,5 +1,7 @@
 // What the far field of a polyhedron, a cubature of 1/r over the signed tetrahedra from an apex to each face, needs of the
 // body alone: the mapped rule, a face's tetrahedron, Duffy's map and the weights. No station comes in, so that all share them.
+#![tactic(auto)]
+
 ghost use Rattle.std.specs.Prelude.{◌≡◌};
 ghost use Rattle.polyhedron_tetrahedra.specs.Tetrahedra.{mapped_rule, over_face, duffy_axis, duffy, line_weight};
 
@@ -9,14 +11,14 @@ use newtonian::{Vector, cross, difference, dot};
 pub const POINTS: usize = 6;
 
 // A rule on (0, 1).
-#[derive(Drop)]
+#[derive(Clone, Copy)]
 pub struct MappedRule {
     pub nodes: [f64; POINTS],
     pub weights: [f64; POINTS],
 }
 
 // A tetrahedron ABCD: the sides from A to B, B to C and C to D, and six times its signed volume.
-#[derive(Drop)]
+#[derive(Clone, Copy)]
 pub struct Tetrahedron {
     pub ab: Vector,
     pub bc: Vector,

@@ -1,4 +1,6 @@
 // A step of the walk over the faces: a group of up to eight faces for a block of eight stations. What of it does not depend on the station is computed once for the block.
+#![tactic(auto)]
+
 ghost use Rattle.std.specs.Prelude.{◌≡◌, true, false, ℕ, ◌+◌, ◌≤◌, ◌<◌, get_or};
 ghost use Rattle.mesh.specs.Surface.{Body, face_count};
 ghost use Rattle.polyhedron_edge_face_sums.specs.EdgeFaceSums.{triangle_of};

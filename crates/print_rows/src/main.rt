@@ -1,6 +1,8 @@
 // Prints the rows of the sheet on standard input, of up to 65,536 bytes, one to a line: each number as
 // the 16 hexadecimal digits of its bits. Prints nothing for longer input, where a read failed, or where
 // 16, 1 or 2 refuses.
+#![tactic(auto)]
+
 use libc::{STDIN_FILENO, STDOUT_FILENO};
 use recheck_input::{Input, MAX_INPUT};
 

@@ -1,4 +1,6 @@
 // The field of a rectangular prism, bisected where it is long and near.
+#![tactic(auto)]
+
 ghost use Rattle.std.specs.Prelude.{◌≡◌};
 ghost use Rattle.newtonian.specs.Field.{answer_of};
 ghost use Rattle.prism.specs.Prism.{join, pieces, prism_at, numbers_within_limits, side_within_limits, sides_within_limits, cause_of, prism, prism_volume};

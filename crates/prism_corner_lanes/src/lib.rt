@@ -1,5 +1,7 @@
 // The corner sums of a prism, with the logarithms and the angles of all corners side by side. Of corner k, what belongs to the axes x, y
 // and z stands at k, 8 + k and 16 + k.
+#![tactic(auto)]
+
 ghost use Rattle.std.specs.Prelude.{◌≡◌, true, ◌<◌, length};
 ghost use Rattle.newtonian.specs.Fold.{Fold};
 ghost use Rattle.newtonian.specs.Vectors.{zero_field};

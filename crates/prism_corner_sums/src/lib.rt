@@ -1,11 +1,13 @@
 // The field of a rectangular prism in closed form, by the corner sums of Nagy, Papp & Benedek (2000).
+#![tactic(auto)]
+
 ghost use Rattle.std.specs.Prelude.{◌≡◌};
 ghost use Rattle.prism_corner_sums.specs.CornerSums.{coordinate, corner_logarithm, corner_angle, corner_at, sign, zero_or_times, potential_term, gradient_term, add_corner_terms, corner_sums};
 
 use newtonian::{Hessian, Newtonian, Vector};
 
 // A corner less the station, with the logarithm and the angle of each axis.
-#[derive(Drop)]
+#[derive(Clone, Copy)]
 pub struct PrismCorner {
     pub at: Vector,
     pub log: Vector,

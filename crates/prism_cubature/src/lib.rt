@@ -1,4 +1,6 @@
 // The field of a rectangular prism by a Gauss-Legendre cubature of 1/r over it.
+#![tactic(auto)]
+
 ghost use Rattle.std.specs.Prelude.{◌≡◌, ◌≤◌};
 ghost use Rattle.legendre.specs.GaussLegendre.{max_order, gauss_legendre};
 ghost use Rattle.newtonian.specs.Fold.{Fold};

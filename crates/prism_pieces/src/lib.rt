@@ -1,18 +1,20 @@
 // The choice of the way in which the field of a rectangular prism, or of a piece of one, is taken at a station: by cubature
 // outside it where that is affordable, else by corner sums, unless the prism is long and those are too rough: then crate
 // prism takes it by the halves given here.
+#![tactic(auto)]
+
 ghost use Rattle.std.specs.Prelude.{◌≡◌, cond};
 ghost use Rattle.prism_pieces.specs.Choice.{squared_outside, distance, ceiling, axis_order, affordable, last_longest, longest, shortest, along, with, corner_distance, farthest_corner, too_rough, bisected, piece_near, piece_outside, piece_of};
 
 use newtonian::{Newtonian, Vector};
 
 // The rule for the longest axis where several are equally long.
-#[derive(Drop)]
+#[derive(Clone, Copy)]
 pub enum AxisRule {
     LastOfEquals,
 }
 
-#[derive(Drop)]
+#[derive(Clone, Copy)]
 pub enum Axis {
     X,
     Y,
@@ -21,7 +23,7 @@ pub enum Axis {
 
 // A piece of a prism: its field, or, where it is to be bisected, the corner max of its lower half and the corner min of its
 // upper half, in this order.
-#[derive(Drop)]
+#[derive(Clone, Copy)]
 pub enum Piece {
     Whole(Newtonian),
     Halves(Vector, Vector),

@@ -1,4 +1,6 @@
 // `profile`: the fields of a closed polyhedron at many stations over one mesh, a record of thirteen numbers for each.
+#![tactic(auto)]
+
 ghost use Rattle.std.specs.Prelude.{◌≡◌, ◌*◌, ◌≤◌, length};
 ghost use Rattle.refusals.specs.Causes.{or_else};
 ghost use Rattle.newtonian.specs.Vectors.{field_size};

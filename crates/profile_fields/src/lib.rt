@@ -1,4 +1,6 @@
 // The records of a checked mesh at many stations, by blocks of eight.
+#![tactic(auto)]
+
 ghost use Rattle.std.specs.Prelude.{◌≡◌, List, ℕ, ◌+◌, ◌*◌, ◌/◌, ◌≤◌, ◌<◌, Float, length};
 ghost use Rattle.refusals.specs.Answer.{Answer};
 ghost use Rattle.newtonian.specs.Vectors.{field_size};

@@ -1,4 +1,6 @@
 // The records of a block of stations, stored one after the other up to the first station that is refused.
+#![tactic(auto)]
+
 ghost use Rattle.std.specs.Prelude.{◌≡◌, List, ℕ, ◌+◌, ◌*◌, ◌≤◌, ◌<◌, Float, length, get_or};
 ghost use Rattle.refusals.specs.Answer.{Answer};
 ghost use Rattle.newtonian.specs.Field.{answer_of};

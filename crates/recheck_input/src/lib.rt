@@ -1,11 +1,13 @@
 // The input of the programs that read a sheet: up to 65,536 bytes, and one more to tell longer input.
+#![tactic(auto)]
+
 ghost use Rattle.std.specs.Prelude.{length};
 ghost use Rattle.recheck_input.specs.CameWithin.{CameWithin};
 
 pub const MAX_INPUT: usize = 65536;
 
 // What came of an input: so many bytes, up to its end or to the buffer's; or a read failed before that.
-#[derive(Drop)]
+#[derive(Clone, Copy)]
 pub enum Input {
     Bytes(usize),
     Failed,

@@ -1,8 +1,10 @@
 // The refusals: one case for each number of document 01's table, with the values that it returns.
+#![tactic(auto)]
+
 ghost use Rattle.std.specs.Prelude.{◌≡◌};
 ghost use Rattle.refusals.specs.Numbers.{number_of, place_of};
 
-#[derive(Drop)]
+#[derive(Clone, Copy)]
 pub enum Refusal {
     // 1: a list's length is not a multiple of 3, the kind is not 1 or 2, or kind 2 comes without V = 2 and F = 0
     Malformed,
@@ -47,7 +49,7 @@ pub enum Refusal {
 }
 
 // What a test for refusals finds: the first cause that holds, or none.
-#[derive(Drop)]
+#[derive(Clone, Copy)]
 pub enum Cause {
     None,
     Refused(Refusal),

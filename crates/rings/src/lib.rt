@@ -1,4 +1,6 @@
 // The complete elliptic integrals, Bulirsch's cel, and the average of 1/r over a ring.
+#![tactic(auto)]
+
 ghost use Rattle.std.specs.Prelude.{◌≡◌};
 ghost use Rattle.carlson.specs.Rounds.{rounds};
 ghost use Rattle.carlson.specs.Answers.{integralAnswer};
@@ -14,7 +16,7 @@ use refusals::Refusal;
 const MAX_MEANS: u32 = 64;
 
 // The arithmetic-geometric mean's a, b and c at round n, the sum of 2^(n-1) c^2, and 2^(n-1).
-#[derive(Drop)]
+#[derive(Clone, Copy)]
 pub struct Mean {
     pub a: f64,
     pub b: f64,
@@ -24,27 +26,27 @@ pub struct Mean {
 }
 
 // K(m) and E(m).
-#[derive(Drop)]
+#[derive(Clone, Copy)]
 pub struct Complete {
     pub k: f64,
     pub e: f64,
 }
 
-#[derive(Drop)]
+#[derive(Clone, Copy)]
 pub enum CompleteIntegrals {
     Values(Complete),
     Refused(Refusal),
 }
 
 // The average of 1/r over a ring, and its derivatives by ρ and z.
-#[derive(Drop)]
+#[derive(Clone, Copy)]
 pub struct RingAverage {
     pub v: f64,
     pub drho: f64,
     pub dz: f64,
 }
 
-#[derive(Drop)]
+#[derive(Clone, Copy)]
 pub enum RingAnswer {
     Value(RingAverage),
     Refused(Refusal),

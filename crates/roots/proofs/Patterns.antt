@@ -22,6 +22,8 @@ whole_of y A d T p h = ap (λ (x : ℕ). x / d) (sym (mul_assoc y T T) ∙ ap (�
 -- x is A units of 2 ^ -1074
 pub root_of-value : (x : Float) (A : ℕ) → HasValue x false A (2 ^ 1074) → Root x ≡ root_of (A * 2 ^ 1074)
 unfolding Root
+root_of-value nan A v = elim v [ ]
+root_of-value (inf _) A v = elim v [ ]
 root_of-value (fin true m e) A v = absurd (true≢false v.0)
 root_of-value (fin false m e) A v = ap root_of (whole_of (m * up e) A (down e) (2 ^ 1074) (down_pos e) v.1)
 
@@ -35,6 +37,8 @@ no_units c A d p q h = let g : 0 < A * d = mul-pos p q in omega arith
 
 root_of-negative : (x : Float) (A : ℕ) → 0 < A → HasValue x true A (2 ^ 1074) → Root x ≡ nan
 unfolding Root
+root_of-negative nan A p v = elim v [ ]
+root_of-negative (inf _) A p v = elim v [ ]
 root_of-negative (fin true zero e) A p v = absurd (no_units (2 ^ 1074) A (down e) p (down_pos e) (ap (λ (x : ℕ). x * 2 ^ 1074) (sym (zero-mul (up e))) ∙ v.1))
 root_of-negative (fin true (suc m) e) A p v = refl
 root_of-negative (fin false m e) A p v = absurd (false≢true v.0)

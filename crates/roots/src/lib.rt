@@ -1,4 +1,6 @@
 // The square root of an f64, as IEEE 754 has it.
+#![tactic(auto)]
+
 ghost use Rattle.std.specs.Prelude.{◌≡◌, ℕ, ◌+◌, ◌*◌, ◌^◌, ◌<◌, ◌≤◌, true, from_bits};
 ghost use Rattle.std.specs.Float.{binary64};
 ghost use Rattle.roots.specs.Root.{Root};
@@ -125,7 +127,7 @@ fn significand(b: u64) -> u64
 
 // A normal number whose root has the same digits: its pattern, of which only the digits and the lowest
 // bit of the exponent count; and twice the exponent's field that the root's digits are to be added to.
-#[derive(Drop)]
+#[derive(Clone, Copy)]
 struct Normal {
     pattern: u64,
     twice: u64,

@@ -1,4 +1,6 @@
 // What `write_sheet` asks of a body whose counts are within the limits: the causes of refusal 4, and 5 to 8 of a mesh or 9 of a prism.
+#![tactic(auto)]
+
 ghost use Rattle.std.specs.Prelude.{◌≡◌, false, List, Float, ◌*◌, ◌≤◌, length};
 ghost use Rattle.refusals.specs.Causes.{unless};
 ghost use Rattle.refusals.specs.declared.Refusal.TheVariants.{TooThin};

@@ -1,5 +1,7 @@
 // A handle on a sheet's bytes, which gives row after row. Its own functions only take it apart and put
 // it together; the work is done on plain slices and numbers.
+#![tactic(auto)]
+
 ghost use Rattle.std.specs.Prelude.{◌≡◌};
 ghost use Rattle.sheet.specs.Checker.{rowPart};
 ghost use Rattle.sheet_handle.specs.RowAfterRow.{rowCount, nextRow, partAfter};

@@ -1,1 +1,2 @@
 // Laws of the sheet. Definitions and laws alone: there is no code.
+#![tactic(auto)]

@@ -1,5 +1,7 @@
 // What readers of a sheet use: the trailer's fields, where the parts begin, the causes 16, 1 and 2, stations and rows as
 // parts of the sheet, and how long a sheet is.
+#![tactic(auto)]
+
 ghost use Rattle.std.specs.Prelude.{◌≡◌, ◌+◌, ◌*◌, ◌≤◌, length};
 ghost use Rattle.sheet_rows.specs.Kinds.{row_width};
 ghost use Rattle.sheet.specs.Bytes.{trailer_length, pointer_of};
@@ -16,7 +18,7 @@ use sheet_layout::f64_at;
 pub const STATION_LENGTH: usize = 24;
 
 // All that stands in the trailer but the pointer.
-#[derive(Drop)]
+#[derive(Clone, Copy)]
 pub struct TrailerFields {
     pub kind: u32,
     pub vertices: u32,
@@ -28,7 +30,7 @@ pub struct TrailerFields {
 }
 
 // What `sheet_trailer` answers.
-#[derive(Drop)]
+#[derive(Clone, Copy)]
 pub enum TrailerAnswer {
     Value(TrailerFields),
     Refused(Refusal),

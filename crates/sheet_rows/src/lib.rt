@@ -1,4 +1,6 @@
 // The row of a station.
+#![tactic(auto)]
+
 pub mod kinds;
 
 ghost use Rattle.std.specs.Prelude.{◌≡◌, true, ℕ, ◌+◌, ◌≤◌, ◌<◌, length, get_or};
@@ -20,7 +22,7 @@ use polyhedron_blocks::STATIONS;
 use refusals::{Cause, Refusal};
 
 // The field, what the magnetisation adds to the ambient field, and the total field's anomaly.
-#[derive(Drop)]
+#[derive(Clone, Copy)]
 pub struct Row {
     pub field: Newtonian,
     pub anomaly: Vector,
@@ -28,14 +30,14 @@ pub struct Row {
 }
 
 // The row, or a refusal.
-#[derive(Drop)]
+#[derive(Clone, Copy)]
 pub enum RowAnswer {
     At(Row),
     Refused(Refusal),
 }
 
 // A mesh's centroid and radius, which are the same for every station.
-#[derive(Drop)]
+#[derive(Clone, Copy)]
 pub struct Center {
     pub centroid: Vector,
     pub radius: f64,

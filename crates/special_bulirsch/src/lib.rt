@@ -1,4 +1,6 @@
 // Bulirsch's general complete elliptic integral, without the tests of its domain.
+#![tactic(auto)]
+
 ghost use Rattle.std.specs.Prelude.{◌≡◌};
 ghost use Rattle.carlson.specs.Rounds.{rounds};
 ghost use Rattle.special_bulirsch.specs.Bulirsch.{max_turns, first_half, second_half, turn, cel_test, cel_end, cel_of};
@@ -8,7 +10,7 @@ ghost use Rattle.special_bulirsch.specs.Bulirsch.{max_turns, first_half, second_
 const MAX_TURNS: u32 = 63;
 
 // Bulirsch's k_c, e, m, p, a and b, and the m before.
-#[derive(Drop)]
+#[derive(Clone, Copy)]
 pub struct Bulirsch {
     pub kc: f64,
     pub e: f64,

@@ -1,4 +1,6 @@
 // Carlson's symmetric elliptic integrals R_F and R_D, and what they share with R_J.
+#![tactic(auto)]
+
 ghost use Rattle.std.specs.Prelude.{◌≡◌};
 ghost use Rattle.carlson.specs.CarlsonLoop.{max_rounds};
 ghost use Rattle.carlson.specs.Rounds.{rounds};
@@ -17,7 +19,7 @@ pub const RD_FACTOR: f64 = f64::from_bits(0x407f_ffff_ffff_fffd);
 
 // What the duplication of R_F carries from round to round: Carlson's x, y, z and A at round n, and
 // f = 4^-n.
-#[derive(Drop)]
+#[derive(Clone, Copy)]
 pub struct RoundF {
     pub x: f64,
     pub y: f64,
@@ -27,7 +29,7 @@ pub struct RoundF {
 }
 
 // The same for R_D, with its sum.
-#[derive(Drop)]
+#[derive(Clone, Copy)]
 pub struct RoundD {
     pub x: f64,
     pub y: f64,

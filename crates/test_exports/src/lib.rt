@@ -1,4 +1,6 @@
 // Inner functions for C and Rust, for the drivers that compare them with the reference build and time them.
+#![tactic(auto)]
+
 ghost use Rattle.std.specs.Prelude.{◌≡◌};
 ghost use Rattle.roots.specs.Root.{Root};
 

@@ -1,5 +1,7 @@
 // The worked figures of the Rust's documentation, as values from outside. Prints a line for each that
 // holds.
+#![tactic(auto)]
+
 use libc::STDOUT_FILENO;
 use newtonian::{Field, Newtonian, Vector};
 

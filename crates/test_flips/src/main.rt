@@ -3,6 +3,8 @@
 // with a bit flipped in what was given (kind, counts, body, magnetisation, ambient field, stations), which may be
 // the sheet of another input, and those with a bit flipped in the rest. An accepted one has to be, byte for byte,
 // what the writer writes of the input that it holds: it prints for how many that is so.
+#![tactic(auto)]
+
 ghost use Rattle.std.specs.Prelude.{◌<◌, ◌≤◌, length};
 
 use libc::STDOUT_FILENO;

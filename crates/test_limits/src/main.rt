@@ -1,4 +1,6 @@
 // Tries `check_sheet` at the limits of F and S, and with one more of each, and prints its verdicts. test_replay_damaged tries the limit of V.
+#![tactic(auto)]
+
 ghost use Rattle.std.specs.Prelude.{◌≡◌, ◌+◌, ◌*◌, ◌≤◌, length};
 
 use libc::STDOUT_FILENO;

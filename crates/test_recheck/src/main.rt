@@ -1,6 +1,8 @@
 // Runs what the program `recheck` runs on the files in data/, on a directory and on a descriptor that is not open. Prints for each its
 // name, how many bytes were read, or that a read failed, and the line of `recheck`. The file longest is the sheet of the tetrahedron T
 // with four vertices that no face uses and 740 times one station; too_long has one byte more.
+#![tactic(auto)]
+
 use libc::STDOUT_FILENO;
 use recheck_input::{Input, MAX_INPUT};
 

@@ -1,6 +1,8 @@
 // What a profile is given and should leave, from a list of the reference build's fields: `body` is the line of a body, with its order list and a table of
 // stations, each with its thirteen numbers, and `line` that of a profile, which names its stations by their places in the table. `test_replay_profiles` says
 // what else they hold. Tested by changed lists, and proved to be safe and to end.
+#![tactic(auto)]
+
 ghost use Rattle.std.specs.Prelude.{◌≤◌, length};
 
 use refusals::Cause;

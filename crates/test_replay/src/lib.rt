@@ -1,6 +1,8 @@
 // Lists of the reference build's answers, for the programs that replay them: numbers of 16 hexadecimal digits, each followed by one byte, a
 // space or a line's end. Test programs are tested, each by a changed list on which it reports a difference, and not proved: what is proved of
 // them is that they are safe and end.
+#![tactic(auto)]
+
 pub mod lines;
 pub mod runs;
 
@@ -10,7 +12,7 @@ use newtonian::Vector;
 use refusals::Refusal;
 
 // How many lines were compared, and how many differ, of the calls 0 to 7.
-#[derive(Drop)]
+#[derive(Clone, Copy)]
 pub struct Tally {
     pub compared: [u64; 8],
     pub differ: [u64; 8],

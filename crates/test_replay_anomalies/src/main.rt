@@ -2,6 +2,8 @@
 // magnetisation and koenigsberger that stands in the file stdin: on each line the call's number, sixteen
 // arguments and three numbers of the answer, zeros where there are fewer. Prints for each call how many
 // lines were compared and how many differ.
+#![tactic(auto)]
+
 ghost use Rattle.std.specs.Prelude.{◌≤◌};
 
 use anomaly::{NumberAnswer, VectorAnswer};
@@ -10,7 +12,7 @@ use refusals::Refusal;
 use test_replay::{double_at, lines, vector_at, word_at};
 
 // The three numbers of an answer.
-#[derive(Drop)]
+#[derive(Clone, Copy)]
 struct Numbers(u64, u64, u64);
 
 // Nine numbers from place k on, row by row.

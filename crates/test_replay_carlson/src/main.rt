@@ -1,6 +1,8 @@
 // Replays the list of the reference build's answers of R_C, ln, atan and atan2 that stands in the file
 // stdin: on each line the call's number, its arguments and the answer. Prints for each call how many
 // lines were compared and how many differ.
+#![tactic(auto)]
+
 use carlson::Integral;
 use test_replay::{double_at, lines, word_at};
 

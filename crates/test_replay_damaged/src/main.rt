@@ -1,6 +1,8 @@
 // Replays the damaged sheets in the file stdin: each after its length, and the number and the place of the
 // refusal that it should have, in 4 bytes each. Then tries the limits of the counts. Prints how many sheets
 // were checked, and how many have another answer.
+#![tactic(auto)]
+
 ghost use Rattle.std.specs.Prelude.{◌≡◌, ◌≤◌, length};
 
 use libc::STDOUT_FILENO;

@@ -2,6 +2,8 @@
 // the lengths of the vertex list, the face list and work; the two lists; the answer, its number (0 for a
 // volume) and two values; and work afterwards. Then tries the limits of the counts. Prints how many
 // meshes were compared, with all of work, and how many differ.
+#![tactic(auto)]
+
 ghost use Rattle.std.specs.Prelude.{◌≤◌, length};
 
 use libc::STDOUT_FILENO;

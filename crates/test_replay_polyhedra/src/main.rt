@@ -2,6 +2,8 @@
 // vertex list, the face list and work; the station; the two lists; the answer's thirteen numbers, or a refusal N as
 // 0x7ff0000000000000 + N, its two values and zeros; and work afterwards. Then tries the limits of the counts. Prints how
 // many lines were compared, with all of work, and how many differ.
+#![tactic(auto)]
+
 ghost use Rattle.std.specs.Prelude.{◌≤◌, length};
 
 use libc::STDOUT_FILENO;

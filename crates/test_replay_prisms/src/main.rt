@@ -1,6 +1,8 @@
 // Replays the list of the reference build's prisms that stands in the file stdin: on each line the
 // station, min and max, and the answer's thirteen numbers, or a refusal N as 0x7ff0000000000000 + N and
 // zeros. Prints how many lines were compared and how many differ.
+#![tactic(auto)]
+
 use newtonian::Field;
 use test_replay::{lines, vector_at, word_at};
 

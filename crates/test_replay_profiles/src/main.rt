@@ -3,6 +3,8 @@
 // with its thirteen numbers; and a line for each profile: the lengths of stations, work and fields; the refusal's number, 0 for none, and its two
 // values; how many records are filled, and whether work is the order list; the places of its stations in the table. Then tries the limits of the
 // counts. Prints how many profiles were compared, with all of work and fields, and how many differ.
+#![tactic(auto)]
+
 ghost use Rattle.std.specs.Prelude.{◌≡◌, ◌≤◌, length};
 
 use libc::STDOUT_FILENO;

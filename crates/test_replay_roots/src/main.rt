@@ -1,5 +1,7 @@
 // Replays the list of the reference build's square roots that stands in the file stdin: on each line a
 // double's bits and its root's. Prints how many lines were compared and how many differ.
+#![tactic(auto)]
+
 use test_replay::{double_at, lines, word_at};
 
 // Whether the line's second number is the root of the first.

@@ -2,6 +2,8 @@
 // text and the reference build's numbers. The checker has to accept each with its kind and S, and the writer,
 // given what it holds, to write the same bytes and to leave those past them as they were. Prints how many
 // sheets were compared, and how many differ.
+#![tactic(auto)]
+
 ghost use Rattle.std.specs.Prelude.{◌≤◌, length};
 
 use sheet::Verdict;

@@ -2,13 +2,15 @@
 // stands in the file stdin: on each line the call's number, four arguments and three numbers of the
 // answer, zeros where there are fewer. Prints for each call how many lines were compared and how many
 // differ.
+#![tactic(auto)]
+
 use carlson::Integral;
 use refusals::Refusal;
 use rings::{CompleteIntegrals, RingAnswer};
 use test_replay::{double_at, lines, word_at};
 
 // The three numbers of an answer.
-#[derive(Drop)]
+#[derive(Clone, Copy)]
 struct Numbers(u64, u64, u64);
 
 fn refused(r: Refusal) -> Numbers {

@@ -1,5 +1,7 @@
 // Writes what a sheet holds anew, and compares: a test of the writer and the checker against each other. Test programs are tested, each by a
 // changed list on which it reports a difference, and not proved: what is proved of them is that they are safe and end.
+#![tactic(auto)]
+
 ghost use Rattle.std.specs.Prelude.{◌≡◌, ◌+◌, ◌*◌, ◌≤◌, length};
 ghost use Rattle.sheet.specs.Bytes.{trailer_length};
 

@@ -1,4 +1,6 @@
 // The sheet writer.
+#![tactic(auto)]
+
 ghost use Rattle.std.specs.Prelude.{◌≡◌, length};
 ghost use Rattle.refusals.specs.Answer.{value, or_answer};
 ghost use Rattle.refusals.specs.declared.Cause.TheVariants.{None};
@@ -14,7 +16,7 @@ use sheet_body::check_body;
 use writer_causes::{lengths_cause, number_cause, sheet_length};
 
 // What `write_sheet` answers: the sheet's length, or the refusal.
-#[derive(Drop)]
+#[derive(Clone, Copy)]
 pub enum Written {
     Bytes(usize),
     Refused(Refusal),

@@ -1,4 +1,6 @@
 // What `write_sheet` asks of its arguments before it touches anything: the causes of refusal 1, 2, 12 and 3.
+#![tactic(auto)]
+
 ghost use Rattle.std.specs.Prelude.{◌≡◌, List, ℕ, ◌+◌, ◌≤◌};
 ghost use Rattle.mesh_orders.specs.Edges.{max_vertices, max_faces, max_stations};
 ghost use Rattle.sheet.specs.Bytes.{trailer_length, pointer_of};

@@ -1,4 +1,6 @@
 // Puts a sheet together of its parts.
+#![tactic(auto)]
+
 ghost use Rattle.std.specs.Prelude.{length};
 ghost use Rattle.sheet.specs.Input.{input_of};
 ghost use Rattle.writer_parts.specs.PartsPut.{MatesStand};

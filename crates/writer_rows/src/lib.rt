@@ -1,4 +1,6 @@
 // Writes the rows of a sheet, by blocks of stations.
+#![tactic(auto)]
+
 ghost use Rattle.std.specs.Prelude.{◌≡◌, List, ℕ, ◌+◌, ◌*◌, ◌/◌, ◌≤◌, ◌<◌, Float, length};
 ghost use Rattle.newtonian.specs.Field.{answer_of};
 ghost use Rattle.mesh_orders.specs.Edges.{max_stations};

@@ -7,14 +7,14 @@ use lib.Dec.{lit≤}
 use lib.Ieee.{binary64, of_bits, of_int}
 use lib.Ieee.Back.{round_whole}
 use borrow.Author.Rules.{rules}
-use Rattle.doubles.proofs.Signs.{in_float}
+use Rattle.doubles.proofs.Signs.{in_float_lem}
 use Rattle.lanes_ln.specs.LnLanes.{half, scale_of}
 use Rattle.lanes_ln.proofs.Whole.{sub-whole}
 use Rattle.lanes_ln.proofs.scale_of.Statement.{statement}
 use Rattle.lanes_ln.proofs.scale_of.Tie as tie
 
 int-to-float-result : tie.Need-int-to-float-result
-int-to-float-result c = in_float _ (omega arith)
+int-to-float-result c = in_float_lem _ (omega arith)
 
 returns : tie.Need-returns
 unfolding scale_of of_int of_bits

@@ -1,0 +1,76 @@
+-- `mesh::scan::flipped_edge` meets its contract: each edge so far differs from the next. Assumes nothing.
+use mathlib.Core.Path.{◌≡◌, sym, ap, ap₂, subst, ◌∙◌}
+use mathlib.Core.List.{List}
+use mathlib.Core.Logic.{◌⊎◌, inl, inr, ⊎_elim}
+use Prim.Native.Nat.{ℕ, ◌+◌, ◌-◌, ◌≤◌, ◌<◌}
+use native.Mathlib.Omega.{arith}
+use lib.ListN.{length, get_or}
+use borrow.Author.Tests.{lt-leb}
+use Rattle.refusals.specs.declared.Refusal.TheVariants.{Flipped}
+use Rattle.refusals.specs.declared.Cause.TheVariants.{Refused}
+use Rattle.lists.proofs.Numbers.{same?}
+use Rattle.mesh_orders.specs.Edges.{from, to, edge}
+use Rattle.mesh_orders.specs.Order.{order_list, Uses}
+use Rattle.mesh_orders.specs.OrderLaws.{order-length, order-uses}
+use Rattle.mesh.specs.Check.{occurs_once, flipped_at, flipped_edge}
+use Rattle.mesh.proofs.Scans.{scan-stop}
+use Rattle.mesh.proofs.Flips.{differ-none, same-twice}
+use Rattle.mesh.proofs.scan.flipped_edge.Goals as goal
+
+pub loop-i-init : goal.loop-i-init
+loop-i-init c = (omega arith, λ k l. absurd (omega arith))
+
+pub edge-requires : goal.edge-requires
+edge-requires c =
+    let uses : Uses c.args.faces.now c.args.order.now = subst (Uses c.args.faces.now) (sym c.requires.1) (order-uses c.args.faces.now c.requires.0) in
+    (c.requires.0.triples, uses.below _ (omega arith))
+
+pub edge-requires-in-loop-i : goal.edge-requires-in-loop-i
+edge-requires-in-loop-i c =
+    let uses : Uses c.args.faces.now c.args.order.now = subst (Uses c.args.faces.now) (sym c.requires.1) (order-uses c.args.faces.now c.requires.0) in
+    (c.requires.0.triples, uses.below _ (omega arith))
+
+pub start-requires : goal.start-requires
+start-requires c =
+    let uses : Uses c.args.faces.now c.args.order.now = subst (Uses c.args.faces.now) (sym c.requires.1) (order-uses c.args.faces.now c.requires.0) in
+    (c.requires.0.triples, uses.below _ (omega arith))
+
+pub end-requires : goal.end-requires
+end-requires c =
+    let uses : Uses c.args.faces.now c.args.order.now = subst (Uses c.args.faces.now) (sym c.requires.1) (order-uses c.args.faces.now c.requires.0) in
+    (c.requires.0.triples, uses.below _ (omega arith))
+
+pub returns-then-edge : goal.returns-then-edge
+unfolding flipped_edge
+returns-then-edge c =
+    let size : length c.args.order.now ≡ length c.args.faces.now = ap length c.requires.1 ∙ order-length c.args.faces.now in
+    let differ : (j : ℕ) → j < c.loop-i.i → edge c.args.faces.now (get_or (order_list c.args.faces.now) j 0) ≡ edge c.args.faces.now (get_or (order_list c.args.faces.now) (j + 1) 0) → ⊥ = λ j l e. c.loop-i.invariant.1 j l (subst (λ (o : List ℕ). edge c.args.faces.now (get_or o j 0) ≡ edge c.args.faces.now (get_or o (j + 1) 0)) (sym c.requires.1) e) in
+    let f = c.args.faces.now in
+    let o = order_list f in
+    let i = c.loop-i.i in
+    let same : get_or c.args.order.now i 0 ≡ get_or o i 0 = ap (λ (l : List ℕ). get_or l i 0) c.requires.1 in
+    let next : get_or c.args.order.now (i + 1) 0 ≡ get_or o (i + 1) 0 = ap (λ (l : List ℕ). get_or l (i + 1) 0) c.requires.1 in
+    ap₂ (λ (a b : ℕ). Refused (Flipped a b)) (c.start.ensures ∙ ap (from f) same) (c.end.ensures ∙ ap (to f) same)
+    ∙ scan-stop (length f) (occurs_once f o) (flipped_at f o) i
+    (omega (arith, size)) (differ-none f c.requires.0 i i (omega (arith, size)) (inl (omega arith)) differ)
+    (lt-leb _ 1 (same-twice f c.requires.0 i (omega (arith, size))
+    (sym (ap (edge f) same) ∙ sym c.edge.ensures ∙ c.if-edge.true ∙ c.edge-in-loop-i.ensures ∙ ap (edge f) next)))
+
+pub loop-i-preserved : goal.loop-i-preserved
+loop-i-preserved c =
+    let f = c.args.faces.now in
+    let o = c.args.order.now in (
+      omega arith,
+      λ k l e.
+          ⊎_elim
+          (λ z. c.if-edge.false (c.edge.ensures ∙ sym (ap (λ (n : ℕ). edge f (get_or o n 0)) z) ∙ e ∙ ap (λ (n : ℕ). edge f (get_or o (n + 1) 0)) z ∙ sym c.edge-in-loop-i.ensures))
+          (λ z. c.loop-i.invariant.1 k (omega arith) e) (same? k c.loop-i.i),
+    )
+
+pub returns : goal.returns
+unfolding flipped_edge
+returns c =
+    let size : length c.args.order.now ≡ length c.args.faces.now = ap length c.requires.1 ∙ order-length c.args.faces.now in
+    let differ : (j : ℕ) → j < c.loop-i.i → edge c.args.faces.now (get_or (order_list c.args.faces.now) j 0) ≡ edge c.args.faces.now (get_or (order_list c.args.faces.now) (j + 1) 0) → ⊥ = λ j l e. c.loop-i.invariant.1 j l (subst (λ (o : List ℕ). edge c.args.faces.now (get_or o j 0) ≡ edge c.args.faces.now (get_or o (j + 1) 0)) (sym c.requires.1) e) in
+    let f = c.args.faces.now in
+    sym (differ-none f c.requires.0 c.loop-i.i (length f) (omega arith) (inr (omega (arith, size))) differ)

@@ -1,0 +1,34 @@
+-- `mesh::scan::open_edge` meets its contract: the uses by to are uses, so that they may serve as guesses, and they stay in the spare list. Assumes nothing.
+use mathlib.Core.Path.{◌≡◌, sym, ap, subst, ◌∙◌}
+use mathlib.Core.Bool.{true}
+use mathlib.Core.List.{List}
+use Prim.Native.Nat.{ℕ}
+use lib.ListN.{length}
+use Rattle.lists.specs.CountingSort.{Placed}
+use Rattle.lists.proofs.Counting.{placed_below}
+use Rattle.mesh_orders.specs.Endpoint.{endpoint}
+use Rattle.mesh_orders.specs.Order.{Uses}
+use Rattle.mesh_orders.specs.OrderLaws.{order-length, order-uses}
+use borrow.Author.Rules.{rules}
+use Rattle.mesh.proofs.scan.open_edge.Goals as goal
+
+pub pass-requires : goal.pass-requires
+pass-requires c =
+    let uses : Uses c.args.faces.now c.args.order.now = subst (Uses c.args.faces.now) (sym c.requires.1) (order-uses c.args.faces.now c.requires.0) in
+    let size : length c.args.order.now ≡ length c.args.faces.now = ap length c.requires.1 ∙ order-length c.args.faces.now in
+    (record { uses = uses; size = size; inside = c.requires.2 }, c.requires.3 ∙ sym size)
+
+pub first_open-requires : goal.first_open-requires
+first_open-requires c =
+    let uses : Uses c.args.faces.now c.args.order.now = subst (Uses c.args.faces.now) (sym c.requires.1) (order-uses c.args.faces.now c.requires.0) in
+    let size : length c.args.order.now ≡ length c.args.faces.now = ap length c.requires.1 ∙ order-length c.args.faces.now in
+    let p = c.pass in
+    let f = c.args.faces.now in (
+      c.requires.0,
+      c.requires.1,
+      record { faces = c.requires.0; below = placed_below (endpoint true f) c.args.order.now p.new.out p.ensures (length f) uses.below },
+      p.ensures.size ∙ size,
+    )
+
+pub returns : goal.returns
+returns c = record { value = search rules; placed = subst (λ (l : List ℕ). Placed (endpoint true c.args.faces.now) l c.pass.new.out) c.requires.1 c.pass.ensures }

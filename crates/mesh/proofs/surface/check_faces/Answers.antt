@@ -1,0 +1,63 @@
+-- `mesh::surface::check_faces` meets its contract: the faces so far have normals, and the sum so far is the fold so far. Assumes nothing.
+use mathlib.Core.Path.{◌≡◌, sym, ap, ◌∙◌}
+use Prim.Native.Nat.{◌-◌, ◌≤◌}
+use native.Mathlib.Omega.{arith}
+use Rattle.doubles.specs.Constants.{0·0}
+use Rattle.newtonian.specs.Fold.{Fold, fold-none, fold_more}
+use Rattle.refusals.specs.declared.Cause.{Cause}
+use Rattle.refusals.specs.Causes.{or_else}
+use Rattle.mesh.specs.Surface.{face_count, is_zero, add_face_volume, volume}
+use Rattle.mesh.specs.Check.{inverted, faces_cause, solid_of}
+use Rattle.mesh.proofs.Faces.{Normals, normals-start, normals-more, normals-stop, normals-end, sum-end}
+use Rattle.mesh.proofs.surface.check_faces.Goals as goal
+
+pub loop-k-init : goal.loop-k-init
+loop-k-init c =
+    let v = c.args.verts.now in
+    let f = c.args.faces.now in
+    (omega arith, normals-start v f, sym (fold-none (add_face_volume v f) 0·0))
+
+pub returns-then-is_zero : goal.returns-then-is_zero
+unfolding faces_cause
+returns-then-is_zero c =
+    let v = c.args.verts.now in
+    let f = c.args.faces.now in
+    ap (λ (d : Cause). solid_of (or_else d (inverted v f)) (volume v f))
+    (normals-stop v f c.loop-k.k (omega arith) c.loop-k.invariant.1 (ap is_zero (sym c.normal.ensures) ∙ sym c.is_zero.ensures ∙ c.if-is_zero.true))
+
+pub loop-k-preserved : goal.loop-k-preserved
+loop-k-preserved c =
+    let v = c.args.verts.now in
+    let f = c.args.faces.now in (
+      omega arith,
+      normals-more v f c.loop-k.k c.loop-k.invariant.1 (ap is_zero (sym c.normal.ensures) ∙ sym c.is_zero.ensures ∙ c.if-is_zero.false),
+      rw fold_more (simp (c.face_volume-sum.ensures, c.loop-k.invariant.2)),
+    )
+
+pub returns-then-sum : goal.returns-then-sum
+unfolding faces_cause inverted
+returns-then-sum c =
+    let l = c.loop-k in
+    let v = c.args.verts.now in
+    let f = c.args.faces.now in
+    simp (← normals-end v f l.k (omega arith) (omega arith) l.invariant.1, ← sum-end v f l.sum l.k (omega arith) (omega arith) l.invariant.2, c.if-sum.true)
+
+pub returns : goal.returns
+unfolding faces_cause inverted
+returns c =
+    let l = c.loop-k in
+    let v = c.args.verts.now in
+    let f = c.args.faces.now in
+    simp (← normals-end v f l.k (omega arith) (omega arith) l.invariant.1, ← sum-end v f l.sum l.k (omega arith) (omega arith) l.invariant.2, c.if-sum.false)
+
+pub normal-requires : goal.normal-requires
+normal-requires c = (c.requires, omega arith)
+
+pub is_zero-requires : goal.is_zero-requires
+is_zero-requires c = tt
+
+pub overflow_cast-result : goal.overflow_cast-result
+overflow_cast-result c = omega (arith, c.requires.faces.few)
+
+pub face_volume-sum-requires : goal.face_volume-sum-requires
+face_volume-sum-requires c = (c.requires, omega arith)

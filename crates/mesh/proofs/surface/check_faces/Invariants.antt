@@ -1,0 +1,18 @@
+-- `mesh::surface::check_faces` meets its contract: the faces so far have normals, and the sum so far is the fold so far. Assumes nothing.
+use mathlib.Core.Path.{◌≡◌, sym, ap, ◌∙◌}
+use Prim.Native.Nat.{◌-◌, ◌≤◌}
+use native.Mathlib.Omega.{arith}
+use Rattle.doubles.specs.Constants.{0·0}
+use Rattle.newtonian.specs.Fold.{Fold, fold-none, fold_more}
+use Rattle.refusals.specs.declared.Cause.{Cause}
+use Rattle.refusals.specs.Causes.{or_else}
+use Rattle.mesh.specs.Surface.{face_count, is_zero, add_face_volume, volume}
+use Rattle.mesh.specs.Check.{inverted, faces_cause, solid_of}
+use Rattle.mesh.proofs.Faces.{Normals, normals-start, normals-more, normals-stop, normals-end, sum-end}
+use Rattle.mesh.proofs.surface.check_faces.Given as goal
+
+abbrev pub invariant-loop-k : goal.invariant-loop-k
+invariant-loop-k l = (l.k ≤ face_count l.faces) × Normals l.verts l.faces l.k × (l.sum ≡ Fold l.k (add_face_volume l.verts l.faces) 0·0)
+
+abbrev pub decreases-loop-k : goal.decreases-loop-k
+decreases-loop-k l = face_count l.faces - l.k
