@@ -1,0 +1,11 @@
+-- `lanes::eight::begin` meets its contract. Assumes nothing.
+use Rattle.std.proofs.Common.{◌≡◌, ◌-◌, length, le_of_lt, arith, length-set, rules}
+use Rattle.doubles.proofs.Fields.{no_nan}
+use Rattle.lanes.proofs.Trying.{Known, none-known, one_known, all_known}
+use Rattle.lanes.proofs.eight.begin.Given as goal
+
+abbrev pub invariant-loop-k : goal.invariant-loop-k
+invariant-loop-k l = (Known 8 l.x l.k l.b) × (length l.y ≡ 8) × (length l.w ≡ 8)
+
+abbrev pub decreases-loop-k : goal.decreases-loop-k
+decreases-loop-k l = 8 - l.k

@@ -1,0 +1,13 @@
+-- `lanes::eight::decide` meets its contract. Assumes nothing.
+use Rattle.std.proofs.Common.{◌-◌, arith, rules}
+use Rattle.lanes.proofs.Trying.{Tried, none_tried, one_tried, all_tried}
+use Rattle.lanes.proofs.eight.decide.Goals as goal
+
+pub loop-k-init : goal.loop-k-init
+loop-k-init c = none_tried c.requires.0 c.requires.1
+
+pub loop-k-preserved : goal.loop-k-preserved
+loop-k-preserved c = one_tried c.loop-k.invariant c.loop-k-test.true (λ h. let d = c.undecided-t.ensures h in (d.high, c.assembled.ensures d))
+
+pub returns : goal.returns
+returns c = let i = c.loop-k.invariant in (λ x p. all_tried i (omega arith) x p, λ a k l. i.none a k (omega arith))

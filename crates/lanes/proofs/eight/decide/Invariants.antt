@@ -1,0 +1,10 @@
+-- `lanes::eight::decide` meets its contract. Assumes nothing.
+use Rattle.std.proofs.Common.{◌-◌, arith, rules}
+use Rattle.lanes.proofs.Trying.{Tried, none_tried, one_tried, all_tried}
+use Rattle.lanes.proofs.eight.decide.Given as goal
+
+abbrev pub invariant-loop-k : goal.invariant-loop-k
+invariant-loop-k l = Tried 8 l.initial.b l.k l.b l.r l.any
+
+abbrev pub decreases-loop-k : goal.decreases-loop-k
+decreases-loop-k l = 8 - l.k

@@ -1,0 +1,10 @@
+-- `lanes::twenty_four::decide` meets its contract. Assumes nothing.
+use Rattle.std.proofs.Common.{◌-◌, arith, rules}
+use Rattle.lanes.proofs.Trying.{Tried, none_tried, one_tried, all_tried}
+use Rattle.lanes.proofs.twenty_four.decide.Given as goal
+
+abbrev pub invariant-loop-k : goal.invariant-loop-k
+invariant-loop-k l = Tried 24 l.initial.b l.k l.b l.r l.any
+
+abbrev pub decreases-loop-k : goal.decreases-loop-k
+decreases-loop-k l = 24 - l.k

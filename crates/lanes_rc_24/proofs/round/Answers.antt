@@ -1,0 +1,36 @@
+-- `lanes_rc_24::round` meets its contract. Assumes nothing.
+use Prim.Native.Nat.{ℕ, ◌-◌, ◌<◌}
+use native.Mathlib.Nat.{le_refl}
+use native.Mathlib.Omega.{arith}
+use Rattle.lanes.proofs.Filling.{Filled, none_filled, one-filled, all-filled}
+use Rattle.lanes_rc.specs.LaneRounds.{after_one, start}
+use Rattle.lanes_rc.proofs.OneLane.{Reads, round-x, round-y, round-a, round-f}
+use Rattle.lanes_rc_24.proofs.round.Goals as goal
+
+pub loop-k-init : goal.loop-k-init
+loop-k-init c = let p = c.requires in (none_filled p.0, none_filled p.1, none_filled p.2, none_filled p.3)
+
+pub loop-k-preserved : goal.loop-k-preserved
+loop-k-preserved c =
+    let k = c.loop-k.k in
+    let i = c.loop-k.invariant in
+    let l : k < 24 = c.loop-k-test.true in
+    let g = c.args in
+    let w : Reads _ (start g.x.now g.y.now g.a.now g.f.now k) _ _ _ _ _ _ = record {
+      x_is = i.0.rest k (le_refl k);
+      y_is = i.1.rest k (le_refl k);
+      a_is = i.2.rest k (le_refl k);
+      f_is = i.3.rest k (le_refl k);
+      l_is = c.lambda_if-lambda.ensures;
+      t_is = c.loop_test-t.ensures;
+    } in (
+      one-filled i.0 l (round-x w c.pick.ensures),
+      one-filled i.1 l (round-y w c.pick-in-loop-k.ensures),
+      one-filled i.2 l (round-a w c.pick-in-loop-k-2.ensures),
+      one-filled i.3 l (round-f w c.pick-in-loop-k-3.ensures),
+    )
+
+pub returns : goal.returns
+returns c =
+    let i = c.loop-k.invariant in
+    record { on_x = all-filled i.0 (omega arith); on_y = all-filled i.1 (omega arith); on_a = all-filled i.2 (omega arith); on_f = all-filled i.3 (omega arith) }

@@ -1,0 +1,16 @@
+-- `lanes_rc_24::round` meets its contract. Assumes nothing.
+use Prim.Native.Nat.{ℕ, ◌-◌, ◌<◌}
+use native.Mathlib.Nat.{le_refl}
+use native.Mathlib.Omega.{arith}
+use Rattle.lanes.proofs.Filling.{Filled, none_filled, one-filled, all-filled}
+use Rattle.lanes_rc.specs.LaneRounds.{after_one, start}
+use Rattle.lanes_rc.proofs.OneLane.{Reads, round-x, round-y, round-a, round-f}
+use Rattle.lanes_rc_24.proofs.round.Given as goal
+
+abbrev pub invariant-loop-k : goal.invariant-loop-k
+invariant-loop-k l =
+    (Filled 24 (λ (j : ℕ). (after_one l.q l.initial.x l.initial.y l.initial.a l.initial.f j).x) l.initial.x l.k l.x) × (Filled 24 (λ (j : ℕ). (after_one l.q l.initial.x l.initial.y l.initial.a l.initial.f j).y) l.initial.y l.k l.y)
+    × (Filled 24 (λ (j : ℕ). (after_one l.q l.initial.x l.initial.y l.initial.a l.initial.f j).a) l.initial.a l.k l.a) × (Filled 24 (λ (j : ℕ). (after_one l.q l.initial.x l.initial.y l.initial.a l.initial.f j).f) l.initial.f l.k l.f)
+
+abbrev pub decreases-loop-k : goal.decreases-loop-k
+decreases-loop-k l = 24 - l.k

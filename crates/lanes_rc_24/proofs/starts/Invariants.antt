@@ -1,0 +1,17 @@
+-- `lanes_rc_24::starts` meets its contract. Assumes nothing.
+use mathlib.Core.Path.{refl, ap}
+use Prim.Native.Nat.{ℕ, ◌-◌}
+use native.Mathlib.Omega.{arith}
+use lib.Ieee.{Float}
+use Rattle.doubles.specs.Rounded.{◌⊗◌}
+use Rattle.carlson.specs.Constants.{[3ε]^-⅛}
+use Rattle.carlson.specs.Rc.{A₀C, QC}
+use Rattle.lanes.specs.Lanes.{lane}
+use Rattle.lanes.proofs.Filling.{Filled, none_filled, one-filled, all-filled}
+use Rattle.lanes_rc_24.proofs.starts.Given as goal
+
+abbrev pub invariant-loop-k : goal.invariant-loop-k
+invariant-loop-k l = (Filled 24 (λ (j : ℕ). A₀C (lane l.x j) (lane l.y j)) l.initial.m l.k l.m) × (Filled 24 (λ (j : ℕ). QC (lane l.x j) (lane l.y j)) l.initial.q l.k l.q)
+
+abbrev pub decreases-loop-k : goal.decreases-loop-k
+decreases-loop-k l = 24 - l.k

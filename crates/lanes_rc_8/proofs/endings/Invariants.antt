@@ -1,0 +1,16 @@
+-- `lanes_rc_8::endings` meets its contract. Assumes nothing.
+use mathlib.Core.Path.{ap₂}
+use Prim.Native.Nat.{ℕ, ◌-◌}
+use native.Mathlib.Omega.{arith}
+use lib.Ieee.{Float}
+use Rattle.doubles.specs.Rounded.{◌⊘◌}
+use Rattle.lanes.specs.Lanes.{lane}
+use Rattle.lanes.proofs.Filling.{Filled, none_filled, one-filled, all-filled}
+use Rattle.lanes_rc.specs.LaneRounds.{ending}
+use Rattle.lanes_rc_8.proofs.endings.Given as goal
+
+abbrev pub invariant-loop-k : goal.invariant-loop-k
+invariant-loop-k l = Filled 8 (λ (j : ℕ). ending (lane l.y j) (lane l.m j) (lane l.f j) (lane l.a j)) l.initial.out l.k l.out
+
+abbrev pub decreases-loop-k : goal.decreases-loop-k
+decreases-loop-k l = 8 - l.k
