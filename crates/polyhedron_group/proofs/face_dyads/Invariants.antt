@@ -1,0 +1,13 @@
+-- `polyhedron_group::face_dyads` meets its contract. Assumes nothing.
+use mathlib.Core.Path.{◌∙◌}
+use Prim.Native.Nat.{◌-◌}
+use native.Mathlib.Omega.{arith}
+use Rattle.polyhedron_faces.specs.Faces.{face_dyad}
+use Rattle.polyhedron_group.proofs.FillingDyads.{FilledDyads, all_dyads, no_dyads, one-dyad}
+use Rattle.polyhedron_group.proofs.face_dyads.Given as goal
+
+abbrev pub invariant-loop-k : goal.invariant-loop-k
+invariant-loop-k l = FilledDyads 8 (face_dyad l.nx l.ny l.nz) l.k l.df
+
+abbrev pub decreases-loop-k : goal.decreases-loop-k
+decreases-loop-k l = 8 - l.k
