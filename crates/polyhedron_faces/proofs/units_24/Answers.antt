@@ -1,0 +1,17 @@
+-- `polyhedron_faces::units_24` meets its contract. Assumes nothing.
+use Prim.Native.Nat.{ℕ, ◌-◌}
+use native.Mathlib.Omega.{arith}
+use Rattle.newtonian.specs.Vectors.{over}
+use Rattle.lanes.specs.Lanes.{lane}
+use Rattle.polyhedron_faces.specs.Faces.{vector_at}
+use Rattle.polyhedron_faces.proofs.FillingVectors.{FilledVectors, all_vectors, no_vectors, one-over}
+use Rattle.polyhedron_faces.proofs.units_24.Goals as goal
+
+pub loop-k-init : goal.loop-k-init
+loop-k-init c = let w = c.requires in no_vectors w.0 w.1 w.2
+
+pub loop-k-preserved : goal.loop-k-preserved
+loop-k-preserved c = one-over c.args.l.now c.loop-k.invariant (omega arith)
+
+pub returns : goal.returns
+returns c = all_vectors c.loop-k.invariant (omega arith)

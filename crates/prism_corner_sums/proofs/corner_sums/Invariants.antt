@@ -1,0 +1,14 @@
+-- `prism_corner_sums::corner_sums` meets its contract. Assumes nothing.
+use mathlib.Core.Path.{◌≡◌}
+use Prim.Native.Nat.{◌≤◌, ◌-◌}
+use native.Mathlib.Omega.{arith}
+use Rattle.newtonian.specs.Vectors.{zero_field}
+use Rattle.newtonian.specs.Fold.{Fold, fold-none, fold_more}
+use Rattle.prism_corner_sums.specs.CornerSums.{add_corner, corner_sums}
+use Rattle.prism_corner_sums.proofs.corner_sums.Given as goal
+
+abbrev pub invariant-loop-k : goal.invariant-loop-k
+invariant-loop-k l = (l.k ≤ 8) × (l.f ≡ Fold l.k (add_corner l.p l.lo l.hi) zero_field)
+
+abbrev pub decreases-loop-k : goal.decreases-loop-k
+decreases-loop-k l = 8 - l.k
