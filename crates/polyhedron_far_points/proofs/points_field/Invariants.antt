@@ -1,0 +1,16 @@
+-- `polyhedron_far_points::points_field` meets its contract. Assumes nothing.
+use mathlib.Core.Path.{◌≡◌, refl}
+use Prim.Native.Nat.{◌+◌, ◌*◌, ◌-◌, ◌≤◌}
+use native.Mathlib.Omega.{arith}
+use lib.ListN.{length}
+use Rattle.newtonian.specs.Fold.{Fold, fold-none}
+use Rattle.newtonian.specs.Vectors.{zero_field}
+use Rattle.lanes.proofs.Folds.{fold-add}
+use Rattle.polyhedron_far_points.specs.Tetrahedral.{point_count, points_field, point_step}
+use Rattle.polyhedron_far_points.proofs.points_field.Given as goal
+
+abbrev pub invariant-loop-m : goal.invariant-loop-m
+invariant-loop-m l = (l.m ≤ 9) × (length l.q ≡ 24) × (length l.r ≡ 24) × (l.sums ≡ Fold (24 * l.m) (point_step l.p l.x l.y l.z l.w) zero_field)
+
+abbrev pub decreases-loop-m : goal.decreases-loop-m
+decreases-loop-m l = 9 - l.m

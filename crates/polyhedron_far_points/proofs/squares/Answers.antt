@@ -1,0 +1,21 @@
+-- `polyhedron_far_points::squares` meets its contract. Assumes nothing.
+use mathlib.Core.Path.{ap, ◌∙◌}
+use Prim.Native.Nat.{ℕ, ◌+◌, ◌-◌}
+use native.Mathlib.Omega.{arith}
+use Rattle.newtonian.specs.Vectors.{dot}
+use Rattle.newtonian.specs.declared.Vector.{Vector}
+use Rattle.lanes.proofs.Filling.{Filled, all-filled, none_filled, one-filled}
+use Rattle.polyhedron_far_points.specs.Tetrahedral.{point_square}
+use Rattle.polyhedron_far_points.proofs.squares.Goals as goal
+
+pub loop-k-init : goal.loop-k-init
+loop-k-init c = none_filled c.requires.1
+
+pub offset-d-requires : goal.offset-d-requires
+offset-d-requires c = omega (arith, c.loop-k-test.true, c.requires.0)
+
+pub loop-k-preserved : goal.loop-k-preserved
+loop-k-preserved c = one-filled c.loop-k.invariant c.loop-k-test.true (c.dot.ensures ∙ ap (λ (v : Vector). dot v v) c.offset-d.ensures)
+
+pub returns : goal.returns
+returns c = all-filled c.loop-k.invariant c.loop-k-test.false
