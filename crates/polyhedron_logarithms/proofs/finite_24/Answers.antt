@@ -1,0 +1,22 @@
+-- `polyhedron_logarithms::finite_24` meets its contract. Assumes nothing.
+use mathlib.Core.Path.{◌≡◌, sym, ◌∙◌}
+use mathlib.Core.Bool.{true}
+use Prim.Native.Nat.{ℕ, ◌-◌, ◌≤◌, ◌<◌}
+use native.Mathlib.Omega.{arith}
+use borrow.Author.Count.{below_none, below_more}
+use lib.Ieee.Scale.{finite}
+use Rattle.lists.proofs.Numbers.{both}
+use Rattle.lanes.specs.Lanes.{lane}
+use borrow.Author.Rules.{rules}
+use Rattle.polyhedron_logarithms.proofs.finite_24.Goals as goal
+
+pub loop-k-init : goal.loop-k-init
+loop-k-init c = (search rules, λ e. below_none _)
+
+pub loop-k-preserved : goal.loop-k-preserved
+loop-k-preserved c =
+    let u = c.loop-k in
+    (search rules, λ e. let n = both u.all c.is_finite-all.result e in below_more _ _ (u.invariant.1 n.0) (sym c.is_finite-all.ensures ∙ n.1))
+
+pub returns : goal.returns
+returns c = λ e j l. c.loop-k.invariant.1 e j (omega arith)
