@@ -1,0 +1,20 @@
+-- `polyhedron_sight::seen_24` meets its contract. Assumes nothing.
+use mathlib.Core.Path.{refl, ap, ◌∙◌}
+use Prim.Native.Nat.{ℕ, ◌-◌}
+use Rattle.roots.specs.Root.{Root}
+use Rattle.newtonian.specs.Vectors.{difference, dot, norm}
+use Rattle.newtonian.specs.declared.Vector.{Vector}
+use Rattle.polyhedron_edge_terms.specs.declared.Corner.{Corner}
+use Rattle.polyhedron_edge_terms.specs.Corners.{seen}
+use Rattle.lanes.proofs.Filling.{Filled, none_filled, one-filled, all-filled}
+use Rattle.polyhedron_sight.specs.Sight.{seen_at}
+use Rattle.polyhedron_sight.proofs.seen_24.Given as goal
+
+abbrev pub invariant-loop-k : goal.invariant-loop-k
+invariant-loop-k l =
+    let s : ℕ → Corner = seen_at l.p l.cx l.cy l.cz in
+    (Filled 24 (λ (j : ℕ). (s j).r.x) l.initial.x l.k l.x) × (Filled 24 (λ (j : ℕ). (s j).r.y) l.initial.y l.k l.y) × (Filled 24 (λ (j : ℕ). (s j).r.z) l.initial.z l.k l.z)
+    × (Filled 24 (λ (j : ℕ). dot (s j).r (s j).r) l.initial.q l.k l.q)
+
+abbrev pub decreases-loop-k : goal.decreases-loop-k
+decreases-loop-k l = 24 - l.k
