@@ -6,28 +6,18 @@ use native.Mathlib.Omega.{arith}
 use lib.Dec.{lit≤}
 use lib.Ieee.{binary64, of_bits, of_int}
 use lib.Ieee.Back.{round_whole}
-use borrow.Author.Rules.{rules}
 use Rattle.doubles.proofs.Signs.{in_float_lem}
 use Rattle.lanes_ln.specs.LnLanes.{half, scale_of}
 use Rattle.lanes_ln.proofs.Whole.{sub-whole}
-use Rattle.lanes_ln.proofs.scale_of.Statement.{statement}
-use Rattle.lanes_ln.proofs.scale_of.Tie as tie
+use Rattle.lanes_ln.proofs.scale_of.Goals as goal
 
-int-to-float-result : tie.Need-int-to-float-result
-int-to-float-result c = in_float_lem _ (omega arith)
+pub int_to_float-result : goal.int_to_float-result
+int_to_float-result c = in_float_lem _ (omega arith)
 
-returns : tie.Need-returns
+pub returns : goal.returns
 unfolding scale_of of_int of_bits
 returns c =
-    let b = c.before.args.b in
+    let b = c.args.b in
     let n = b / 2 ^ 52 + half b in
     let l : n ≤ 2 ^ 53 = omega arith in
     sub-whole _ _ n 1023 (round_whole binary64 false n l) (refl, refl) l (lit≤ tt)
-
-pub scale-of-spec : {M : Type 1} → statement M
-scale-of-spec =
-    tie.close
-    (tie.spec
-    (λ c. search rules)
-    int-to-float-result
-    returns)

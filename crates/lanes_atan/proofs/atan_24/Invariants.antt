@@ -1,0 +1,18 @@
+-- `lanes_atan::atan_24` meets its contract. Assumes nothing.
+use mathlib.Core.Path.{refl}
+use Prim.Native.Nat.{ℕ, ◌-◌}
+use lib.Ieee.{nan}
+use lib.ListN.{get_or-replicate}
+use Rattle.doubles.specs.Rounded.{◌⊗◌}
+use Rattle.doubles.specs.Constants.{1·0}
+use Rattle.lanes.specs.Lanes.{lane}
+use Rattle.lanes.proofs.Filling.{Filled, none_filled, one-filled, all-filled}
+use Rattle.lanes_atan2.specs.AtanLanes.{atan_from}
+use Rattle.lanes_atan.proofs.AtanLaw.{atan_parts}
+use Rattle.lanes_atan.proofs.atan_24.Given as goal
+
+abbrev pub invariant-loop-k : goal.invariant-loop-k
+invariant-loop-k l = Filled 24 (λ (j : ℕ). atan_from (lane l.z j) (lane l.w j ⊗ lane l.r j)) l.initial.out l.k l.out
+
+abbrev pub decreases-loop-k : goal.decreases-loop-k
+decreases-loop-k l = 24 - l.k

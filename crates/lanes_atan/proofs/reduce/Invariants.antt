@@ -1,0 +1,18 @@
+-- `lanes_atan::reduce` meets its contract. Assumes nothing.
+use mathlib.Core.Path.{◌≡◌, ap, ◌∙◌}
+use Prim.Native.Nat.{ℕ, ◌-◌}
+use lib.Ieee.{Float}
+use Rattle.doubles.specs.Rounded.{◌⊕◌, ◌⊗◌}
+use Rattle.doubles.specs.Constants.{1·0}
+use Rattle.lanes.specs.Lanes.{lane}
+use Rattle.lanes.proofs.Filling.{Filled, none_filled, one-filled, all-filled}
+use Rattle.lanes_atan2.specs.AtanLanes.{reduced}
+use Rattle.lanes_atan.proofs.AtanLaw.{reduced-is}
+use Rattle.lanes_atan.proofs.reduce.Given as goal
+
+abbrev pub invariant-loop-k : goal.invariant-loop-k
+invariant-loop-k l =
+    (Filled 24 (λ (j : ℕ). reduced (lane l.z j)) l.initial.w l.k l.w) × (Filled 24 (λ (j : ℕ). 1·0 ⊕ reduced (lane l.z j) ⊗ reduced (lane l.z j)) l.initial.y l.k l.y)
+
+abbrev pub decreases-loop-k : goal.decreases-loop-k
+decreases-loop-k l = 24 - l.k

@@ -1,0 +1,15 @@
+-- `lanes_atan2::one_and_square` meets its contract. Assumes nothing.
+use mathlib.Core.Path.{refl}
+use Prim.Native.Nat.{ℕ, ◌-◌}
+use native.Mathlib.Omega.{arith}
+use Rattle.doubles.specs.Rounded.{◌⊕◌, ◌⊗◌}
+use Rattle.doubles.specs.Constants.{1·0}
+use Rattle.lanes.specs.Lanes.{lane}
+use Rattle.lanes.proofs.Filling.{Filled, none_filled, one-filled, all-filled}
+use Rattle.lanes_atan2.proofs.one_and_square.Given as goal
+
+abbrev pub invariant-loop-k : goal.invariant-loop-k
+invariant-loop-k l = Filled 8 (λ (j : ℕ). 1·0 ⊕ lane l.w j ⊗ lane l.w j) l.initial.y l.k l.y
+
+abbrev pub decreases-loop-k : goal.decreases-loop-k
+decreases-loop-k l = 8 - l.k

@@ -1,0 +1,18 @@
+-- `lanes_atan2::quotients` meets its contract. Assumes nothing.
+use mathlib.Core.Path.{◌≡◌, refl}
+use mathlib.Core.Bool.{true}
+use Prim.Native.Nat.{ℕ, ◌-◌, ◌<◌}
+use native.Mathlib.Omega.{arith}
+use borrow.Author.Count.{below_none, below_more}
+use Rattle.doubles.specs.Rounded.{◌⊘◌}
+use Rattle.lists.proofs.Numbers.{both}
+use Rattle.lanes.specs.Lanes.{lane}
+use Rattle.lanes.proofs.Filling.{Filled, none_filled, one-filled, all-filled}
+use Rattle.lanes_atan2.specs.AtanLanes.{Proper}
+use Rattle.lanes_atan2.proofs.quotients.Given as goal
+
+abbrev pub invariant-loop-k : goal.invariant-loop-k
+invariant-loop-k l = (Filled 8 (λ (j : ℕ). lane l.s j ⊘ lane l.c j) l.initial.z l.k l.z) × (l.good ≡ true → (j : ℕ) → j < l.k → Proper (lane l.s j) (lane l.c j))
+
+abbrev pub decreases-loop-k : goal.decreases-loop-k
+decreases-loop-k l = 8 - l.k

@@ -1,0 +1,22 @@
+-- `lanes_ln::split` meets its contract. Assumes nothing.
+use mathlib.Core.Path.{◌≡◌, ap, ◌∙◌}
+use mathlib.Core.Bool.{true}
+use Prim.Native.Nat.{ℕ, ◌-◌, ◌<◌}
+use native.Mathlib.Omega.{arith}
+use borrow.Author.Count.{below_none, below_more}
+use lib.Ieee.{Float}
+use Rattle.doubles.specs.Rounded.{◌⊗◌}
+use Rattle.carlson.specs.Logarithm.{midpoint}
+use Rattle.lists.proofs.Numbers.{both}
+use Rattle.lanes.specs.Lanes.{lane}
+use Rattle.lanes.proofs.Filling.{Filled, none_filled, one-filled, all-filled}
+use Rattle.lanes_ln.specs.LnLanes.{Normal, scale_of, fraction_of, scale_at, fraction_at, square_at}
+use Rattle.lanes_ln.proofs.split.Given as goal
+
+abbrev pub invariant-loop-k : goal.invariant-loop-k
+invariant-loop-k l =
+    (Filled 24 (λ (j : ℕ). scale_at (lane l.x j)) l.initial.s l.k l.s) × (Filled 24 (λ (j : ℕ). fraction_at (lane l.x j)) l.initial.t l.k l.t) × (Filled 24 (λ (j : ℕ). square_at (lane l.x j)) l.initial.h l.k l.h)
+    × (l.good ≡ true → (j : ℕ) → j < l.k → Normal (lane l.x j))
+
+abbrev pub decreases-loop-k : goal.decreases-loop-k
+decreases-loop-k l = 24 - l.k
