@@ -25,7 +25,7 @@ LIBRARY = set(
 )
 KEPT = re.compile(r"^(invariant|decreases|returns|overflow\w*|loop|Need|After|At|In|Then|Else)-|^[0-9]|-spec$|^\+")
 # spelled by hand: the library's word for getD is get_or; three fields and four definitions that another name would meet
-BY_HAND = {"getD-range": "get_or-range", "in-float": "in_float_lem", "far-sums": "sums_far", "in-limits": "is_in_limits", "well-formed": "is_well_formed", "matesAt": "mates_standing", "nextRow": "next_row_of", "sheetLength": "sheet_size", "ruleAnswer": "answer_of_rule"}
+BY_HAND = {"getD-range": "get_or-range", "in-float": "in_float_lem", "of-int": "of_int_lem", "far-sums": "sums_far", "in-limits": "is_in_limits", "well-formed": "is_well_formed", "matesAt": "mates_standing", "nextRow": "next_row_of", "sheetLength": "sheet_size", "ruleAnswer": "answer_of_rule"}
 
 
 def files(suffixes):

@@ -8,10 +8,10 @@ use Rattle.anomaly.specs.declared.NumberAnswer.{NumberAnswer}
 use Rattle.anomaly.specs.declared.NumberAnswer as ofNumber
 
 -- the answer of each case
-abbrev pub vectorAnswer : VectorAnswer → Answer Vector
-vectorAnswer (ofVector.TheVariants.Value v) = value v
-vectorAnswer (ofVector.TheVariants.Refused r) = refused r
+abbrev pub vector_answer : VectorAnswer → Answer Vector
+vector_answer (ofVector.TheVariants.Value v) = value v
+vector_answer (ofVector.TheVariants.Refused r) = refused r
 
-abbrev pub numberAnswer : NumberAnswer → Answer Float
-numberAnswer (ofNumber.TheVariants.Value x) = value x
-numberAnswer (ofNumber.TheVariants.Refused r) = refused r
+abbrev pub number_answer : NumberAnswer → Answer Float
+number_answer (ofNumber.TheVariants.Value x) = value x
+number_answer (ofNumber.TheVariants.Refused r) = refused r

@@ -3,7 +3,7 @@
 #![tactic(auto)]
 
 ghost use Rattle.std.specs.Prelude.{◌≡◌};
-ghost use Rattle.anomaly.specs.Answers.{vectorAnswer, numberAnswer};
+ghost use Rattle.anomaly.specs.Answers.{vector_answer, number_answer};
 ghost use Rattle.anomaly.specs.Body.{trace, row_times, body_of, body};
 ghost use Rattle.anomaly.specs.Limits.{both_within_limits, hessian_within_limits};
 ghost use Rattle.anomaly.specs.TotalField.{total_field_of, total_field};
@@ -77,7 +77,7 @@ pub fn body_of(mu: f64, hessian: Hessian, magnetisation: Vector) -> Vector
 // The field (T) of a body magnetised uniformly (A/m), from the Hessian of its unit-density
 // potential at a point, inside or outside; or refused by 3.
 pub fn body(hessian: Hessian, magnetisation: Vector) -> VectorAnswer
-    ensures { vectorAnswer result ≡ body hessian magnetisation }
+    ensures { vector_answer result ≡ body hessian magnetisation }
 {
     if hessian_within_limits(hessian) & vector_within_limits(magnetisation) {
         return VectorAnswer::Value(body_of(C_M, hessian, magnetisation));
@@ -97,7 +97,7 @@ pub fn total_field_of(ambient: Vector, anomaly: Vector) -> f64
 
 // The total-field anomaly (T): by how much an anomaly changes what a total-field magnetometer reads in the ambient field; or refused by 3.
 pub fn total_field(ambient: Vector, anomaly: Vector) -> NumberAnswer
-    ensures { numberAnswer result ≡ total_field ambient anomaly }
+    ensures { number_answer result ≡ total_field ambient anomaly }
 {
     if both_within_limits(ambient, anomaly) {
         return NumberAnswer::Value(total_field_of(ambient, anomaly));

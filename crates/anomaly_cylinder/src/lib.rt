@@ -2,7 +2,7 @@
 #![tactic(auto)]
 
 ghost use Rattle.std.specs.Prelude.{◌≡◌};
-ghost use Rattle.anomaly.specs.Answers.{vectorAnswer};
+ghost use Rattle.anomaly.specs.Answers.{vector_answer};
 ghost use Rattle.anomaly_cylinder.specs.Cylinder.{times_vector, minus_times, projector, cylinder_inside, line_row, cylinder_outside, cylinder_hessian, cylinder_of, cylinder_within_limits, cylinder};
 
 use anomaly::{VectorAnswer, body_of, both_within_limits};
@@ -110,7 +110,7 @@ fn cylinder_within_limits(p: Vector, point: Vector, axis: Vector, a: f64, m: Vec
 // The field (T) at p of an infinite cylinder of radius a (m) along `axis` through `point`, magnetised uniformly at
 // m (A/m); or refused by 3, or by 14 unless a > 0 and the axis's length, as computed, is above 0.
 pub fn cylinder(p: Vector, point: Vector, axis: Vector, a: f64, m: Vector) -> VectorAnswer
-    ensures { vectorAnswer result ≡ cylinder p point axis a m }
+    ensures { vector_answer result ≡ cylinder p point axis a m }
 {
     if cylinder_within_limits(p, point, axis, a, m) {
         let n = newtonian::norm(axis);

@@ -2,7 +2,7 @@
 #![tactic(auto)]
 
 ghost use Rattle.std.specs.Prelude.{◌≡◌};
-ghost use Rattle.anomaly.specs.Answers.{vectorAnswer};
+ghost use Rattle.anomaly.specs.Answers.{vector_answer};
 ghost use Rattle.anomaly_sphere.specs.Sphere.{dipole_row, sphere_outside, sphere_hessian, sphere_of, sphere_within_limits, sphere};
 
 use anomaly::{VectorAnswer, body_of, both_within_limits};
@@ -60,7 +60,7 @@ fn sphere_within_limits(p: Vector, centre: Vector, a: f64, m: Vector) -> bool
 // The field (T) at p of a sphere of radius a (m), magnetised uniformly at m (A/m); or refused by 3, or by 14
 // unless a > 0.
 pub fn sphere(p: Vector, centre: Vector, a: f64, m: Vector) -> VectorAnswer
-    ensures { vectorAnswer result ≡ sphere p centre a m }
+    ensures { vector_answer result ≡ sphere p centre a m }
 {
     if sphere_within_limits(p, centre, a, m) {
         if 0.0 < a {

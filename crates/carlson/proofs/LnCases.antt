@@ -11,7 +11,7 @@ use lib.Ieee.Positive.{positive, first_pos}
 use Rattle.doubles.specs.Rounded.{◌⊘◌}
 use Rattle.doubles.specs.Constants.{0·0, 1·0}
 use Rattle.doubles.proofs.Signs.{is-zero, zero_equals, true→T, false→T}
-use Rattle.carlson.specs.Logarithm.{lnBy}
+use Rattle.carlson.specs.Logarithm.{ln_by}
 use Rattle.carlson.proofs.LnBits.{pos_test}
 
 -- the product that a comparison with zero makes
@@ -31,15 +31,15 @@ not-zero s zero e h = absurd (true≢false (sym (zero_equals s e) ∙ h))
 not-zero s (suc m) e h = zero-lt-suc m
 
 module _ (R_C : Float → Float → Float) where
-  at_zero : (s : Bool) (e : ℤ) → neg 1·0 ⊘ 0·0 ≡ lnBy R_C (fin s 0 e)
-  unfolding neg div of_bits lnBy
+  at_zero : (s : Bool) (e : ℤ) → neg 1·0 ⊘ 0·0 ≡ ln_by R_C (fin s 0 e)
+  unfolding neg div of_bits ln_by
   at_zero s e = refl
 
-  pub ln-zero : (x : Float) → eq x 0·0 ≡ true → neg 1·0 ⊘ 0·0 ≡ lnBy R_C x
-  ln-zero x h = let z = is-zero x h in at_zero z.0 z.1 ∙ ap (lnBy R_C) (sym z.2)
+  pub ln-zero : (x : Float) → eq x 0·0 ≡ true → neg 1·0 ⊘ 0·0 ≡ ln_by R_C x
+  ln-zero x h = let z = is-zero x h in at_zero z.0 z.1 ∙ ap (ln_by R_C) (sym z.2)
 
-  pub ln-below : (x : Float) → eq x 0·0 ≡ false → lt x (1·0 ⊘ 0·0) ≡ true → lt 0·0 x ≡ false → 0·0 ⊘ 0·0 ≡ lnBy R_C x
-  unfolding lt div of_bits lnBy
+  pub ln-below : (x : Float) → eq x 0·0 ≡ false → lt x (1·0 ⊘ 0·0) ≡ true → lt 0·0 x ≡ false → 0·0 ⊘ 0·0 ≡ ln_by R_C x
+  unfolding lt div of_bits ln_by
   ln-below nan z h k = absurd (false≢true h)
   ln-below (inf true) z h k = refl
   ln-below (inf false) z h k = absurd (false≢true h)
@@ -48,8 +48,8 @@ module _ (R_C : Float → Float → Float) where
       absurd (lt_irrefl 0 (subst (λ (n : ℕ). 0 < n) (zero-mul (down e))
       (lt_of_lt_of_le (mul-pos (mul-pos (not-zero false m e z) (up_pos e)) (zero-lt-suc 0)) (nltb→le (0 * down e) (m * up e * 1) (false→T k)))))
 
-  pub ln-other : (x : Float) → lt x (1·0 ⊘ 0·0) ≡ false → x ≡ lnBy R_C x
-  unfolding lt div of_bits lnBy
+  pub ln-other : (x : Float) → lt x (1·0 ⊘ 0·0) ≡ false → x ≡ ln_by R_C x
+  unfolding lt div of_bits ln_by
   ln-other nan h = refl
   ln-other (inf true) h = absurd (true≢false h)
   ln-other (inf false) h = refl

@@ -5,6 +5,6 @@ use Rattle.carlson.specs.declared.Integral.{Integral}
 use Rattle.carlson.specs.declared.Integral.TheVariants.{Value, Refused}
 
 -- the answer of each case
-abbrev pub integralAnswer : Integral → Answer Float
-integralAnswer (Value x) = value x
-integralAnswer (Refused r) = refused r
+abbrev pub integral_answer : Integral → Answer Float
+integral_answer (Value x) = value x
+integral_answer (Refused r) = refused r

@@ -24,13 +24,13 @@ midpoint t = (1·0 ⊕ t) ⊘ 2·0
 
 -- over any R_C, so that special_laws (`AtMostSix`) can say at which arguments it is used
 module _ (R_C : Float → Float → Float) where
-  unfoldable pub lnAt : Float → Float → Float
-  lnAt k t = k ⊗ LN2 ⊕ (t ⊖ 1·0) ⊗ R_C (midpoint t ⊗ midpoint t) t
+  unfoldable pub ln_at : Float → Float → Float
+  ln_at k t = k ⊗ LN2 ⊕ (t ⊖ 1·0) ⊗ R_C (midpoint t ⊗ midpoint t) t
 
-  unfoldable pub lnBy : Float → Float
-  lnBy nan = nan
-  lnBy (inf s) = cond s nan (inf false)
-  lnBy (fin s m e) = cond (eqb m 0) (inf true) (cond s nan (lnAt (of_int binary64 (exponent m e)) (fraction m)))
+  unfoldable pub ln_by : Float → Float
+  ln_by nan = nan
+  ln_by (inf s) = cond s nan (inf false)
+  ln_by (fin s m e) = cond (eqb m 0) (inf true) (cond s nan (ln_at (of_int binary64 (exponent m e)) (fraction m)))
 
 unfoldable pub ln : Float → Float
-ln x = lnBy rc_value x
+ln x = ln_by rc_value x

@@ -13,7 +13,7 @@ use Rattle.refusals.specs.declared.Refusal.TheVariants.{OutsideDomain, TooManyRo
 use Rattle.carlson.specs.Constants.{[3ε]^-⅛, 22·0, 159·0, 208·0}
 use Rattle.carlson.specs.Rounds.{rounds}
 use Rattle.carlson.specs.CarlsonLoop.{max_rounds, quarter, loop_test}
-use Rattle.carlson.specs.Answers.{integralAnswer}
+use Rattle.carlson.specs.Answers.{integral_answer}
 use Rattle.carlson.specs.declared.RoundC.{RoundC}
 use Rattle.carlson.specs.declared.Integral.{Integral}
 use Rattle.carlson.specs.declared.Integral.TheVariants.{Value, Refused}
@@ -78,7 +78,7 @@ rc x y =
 
 -- the public call, refused by 14 unless both are finite and x ≥ 0
 unfoldable pub carlson_rc : Float → Float → Answer Float
-carlson_rc x y = or_answer (unless (finite x && finite y && le 0·0 x) OutsideDomain) (integralAnswer (rc x y))
+carlson_rc x y = or_answer (unless (finite x && finite y && le 0·0 x) OutsideDomain) (integral_answer (rc x y))
 
 -- its value, and d where it is refused
 abbrev pub value_or : Float → Integral → Float

@@ -7,14 +7,14 @@ use Rattle.std.proofs.Math.Path.{refl, subst}
 use Rattle.carlson.specs.Rounds.{rounds_from, rounds}
 
 module _ {S : Type 0} (test : S → Bool) (step : S → S) where
-  at-false : (n : ℕ) (s : S) → rounds_from test step n s false ≡ s
+  at_false : (n : ℕ) (s : S) → rounds_from test step n s false ≡ s
   unfolding rounds_from
-  at-false zero s = refl
-  at-false (suc n) s = refl
+  at_false zero s = refl
+  at_false (suc n) s = refl
 
   -- the test fails
   pub stop : (n : ℕ) (s : S) → test s ≡ false → rounds test step n s ≡ s
-  stop n s e = subst (λ (b : Bool). rounds_from test step n s b ≡ s) (sym e) (at-false n s)
+  stop n s e = subst (λ (b : Bool). rounds_from test step n s b ≡ s) (sym e) (at_false n s)
 
   -- no round is left
   pub none_left : (n : ℕ) (s : S) → n ≡ 0 → rounds test step n s ≡ s

@@ -8,11 +8,11 @@ ghost use Rattle.std.specs.Float.Ieee.Positive.{positive};
 ghost use Rattle.roots.specs.Root.{Root};
 ghost use Rattle.carlson.specs.CarlsonLoop.{max_rounds, loop_test};
 ghost use Rattle.carlson.specs.Rounds.{rounds};
-ghost use Rattle.carlson.specs.Answers.{integralAnswer};
+ghost use Rattle.carlson.specs.Answers.{integral_answer};
 ghost use Rattle.carlson.specs.Rc.{duplicate_c, test_c, series_c, rc_above, times_integral, rc, carlson_rc, rc_value};
-ghost use Rattle.carlson.specs.Logarithm.{lnAt, ln};
+ghost use Rattle.carlson.specs.Logarithm.{ln_at, ln};
 ghost use Rattle.carlson.specs.LogarithmOfBits.{ln_of_bits};
-ghost use Rattle.carlson.specs.Arctangent.{with_sign, atanWithin, atan, atan2};
+ghost use Rattle.carlson.specs.Arctangent.{with_sign, atan_within, atan, atan2};
 
 use refusals::Refusal;
 
@@ -149,7 +149,7 @@ pub fn rc(x: f64, y: f64) -> Integral
 // Carlson's R_C(x, y), for finite arguments with x ≥ 0: refused by 14 outside that domain, and by 15
 // where the loop's test still holds after MAX_ROUNDS.
 pub fn carlson_rc(x: f64, y: f64) -> Integral
-    ensures { integralAnswer result ≡ carlson_rc x y }
+    ensures { integral_answer result ≡ carlson_rc x y }
 {
     if doubles::is_finite(x) & doubles::is_finite(y) & (0.0 <= x) {
         return rc(x, y);
@@ -172,7 +172,7 @@ fn rc_value(x: f64, y: f64) -> f64
 
 // k LN2 + (t - 1) R_C(h h, t), with h = (1 + t)/2.
 fn ln_at(k: f64, t: f64) -> f64
-    ensures { result ≡ lnAt rc_value k t }
+    ensures { result ≡ ln_at rc_value k t }
 {
     let h = (1.0 + t) / 2.0;
     k * LN_2 + (t - 1.0) * rc_value(h * h, t)
@@ -251,7 +251,7 @@ fn with_sign(z: f64, w: f64) -> f64
 
 // The arctangent for |z| ≤ 1.
 fn atan_within(z: f64) -> f64
-    ensures { result ≡ atanWithin rc_value z }
+    ensures { result ≡ atan_within rc_value z }
 {
     z * rc_value(1.0, 1.0 + z * z)
 }

@@ -2,7 +2,7 @@
 #![tactic(auto)]
 
 ghost use Rattle.std.specs.Prelude.{◌≡◌, ℕ};
-ghost use Rattle.sheet.specs.Checker.{verdict_answer, checkSheet};
+ghost use Rattle.sheet.specs.Checker.{verdict_answer, check_sheet};
 ghost use Rattle.sheet.specs.Promises.{Right};
 
 use refusals::Cause;
@@ -11,7 +11,7 @@ use sheet::Verdict;
 // Checks a sheet: accepted, with the kind and S that stand in its trailer, or refused by the first cause of document 01's order. An accepted sheet is closed, of a
 // volume above 0, and in every byte what the definitions give.
 pub fn check_sheet(sheet: &[u8]) -> Verdict
-    ensures result_value { verdict_answer result ≡ checkSheet sheet.now }
+    ensures result_value { verdict_answer result ≡ check_sheet sheet.now }
     ensures by_index { (k n : ℕ) → result ≡ Verdict.Accepted k n → Right sheet.now k n }
 {
     let opening = sheet_readers::opening_cause(sheet);

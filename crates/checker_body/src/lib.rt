@@ -5,7 +5,7 @@ ghost use Rattle.std.specs.Prelude.{◌≡◌};
 ghost use Rattle.mesh.specs.Check.{solid_of};
 ghost use Rattle.sheet.specs.Bytes.{volume};
 ghost use Rattle.sheet.specs.Checker.{parse, solid_cause};
-ghost use Rattle.checker_lists.specs.Stages.{volumeCause, Ready};
+ghost use Rattle.checker_lists.specs.Stages.{volume_cause, Ready};
 
 use mesh::{Solid, surface};
 use refusals::{Cause, Refusal};
@@ -24,7 +24,7 @@ fn check_solid(sheet: &[u8], verts: &[f64], faces: &[u32]) -> Solid
 // The causes 7 and 8, or 9, then 19.
 pub fn volume_cause(sheet: &[u8], verts: &[f64], faces: &[u32]) -> Cause
     requires { Ready sheet.now verts.now faces.now }
-    ensures { result ≡ volumeCause sheet.now }
+    ensures { result ≡ volume_cause sheet.now }
 {
     match check_solid(sheet, verts, faces) {
         Solid::Refused(r) => Cause::Refused(r),

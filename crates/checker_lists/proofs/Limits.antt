@@ -11,23 +11,23 @@ use Rattle.newtonian.specs.Vectors.{vector_within_limits}
 use Rattle.mesh.specs.Check as mesh
 use Rattle.sheet_layout.specs.LittleEndian.{unpack, doubles}
 use Rattle.sheet.specs.Writer.{out_of_limits}
-use Rattle.sheet.specs.Checker.{trailer, stationsIn, stationsStart, vectorIn, parse}
+use Rattle.sheet.specs.Checker.{trailer, stations_in, stations_start, vector_in, parse}
 
 module _ (b : List ℕ) (v : List Float) (ev : v ≡ (parse b).vertices) where
-  pub in-vertices : (r : Refusal) → mesh.out_of_limits v ≡ Refused r → Refused r ≡ out_of_limits (parse b)
+  pub in_vertices : (r : Refusal) → mesh.out_of_limits v ≡ Refused r → Refused r ≡ out_of_limits (parse b)
   unfolding out_of_limits
-  in-vertices r e = rw (sym (ap mesh.out_of_limits ev) ∙ e)
+  in_vertices r e = rw (sym (ap mesh.out_of_limits ev) ∙ e)
 
   module _ (e : mesh.out_of_limits v ≡ None) where
-    pub in-magnetisation : vector_within_limits (vectorIn b (trailer b + 16)) ≡ false → Refused OutOfLimits ≡ out_of_limits (parse b)
+    pub in_magnetisation : vector_within_limits (vector_in b (trailer b + 16)) ≡ false → Refused OutOfLimits ≡ out_of_limits (parse b)
     unfolding out_of_limits parse
-    in-magnetisation m = rw (sym (ap mesh.out_of_limits ev) ∙ e, m)
+    in_magnetisation m = rw (sym (ap mesh.out_of_limits ev) ∙ e, m)
 
-    module _ (m : vector_within_limits (vectorIn b (trailer b + 16)) ≡ true) where
-      pub in-ambient : vector_within_limits (vectorIn b (trailer b + 40)) ≡ false → Refused OutOfLimits ≡ out_of_limits (parse b)
+    module _ (m : vector_within_limits (vector_in b (trailer b + 16)) ≡ true) where
+      pub in_ambient : vector_within_limits (vector_in b (trailer b + 40)) ≡ false → Refused OutOfLimits ≡ out_of_limits (parse b)
       unfolding out_of_limits parse
-      in-ambient a = rw (sym (ap mesh.out_of_limits ev) ∙ e, m, a)
+      in_ambient a = rw (sym (ap mesh.out_of_limits ev) ∙ e, m, a)
 
-      pub in-stations : vector_within_limits (vectorIn b (trailer b + 40)) ≡ true → mesh.out_of_limits (doubles (unpack 8 (3 * stationsIn b) b (stationsStart b))) ≡ out_of_limits (parse b)
+      pub in_stations : vector_within_limits (vector_in b (trailer b + 40)) ≡ true → mesh.out_of_limits (doubles (unpack 8 (3 * stations_in b) b (stations_start b))) ≡ out_of_limits (parse b)
       unfolding out_of_limits parse
-      in-stations a = rw (sym (ap mesh.out_of_limits ev) ∙ e, m, a)
+      in_stations a = rw (sym (ap mesh.out_of_limits ev) ∙ e, m, a)

@@ -19,14 +19,14 @@ use Rattle.mesh.specs.Check as mesh
 use Rattle.mesh.specs.CauseLaws.{none-vertex}
 use Rattle.sheet_rows.specs.Kinds.{is_mesh, is_prism, known_kind}
 use Rattle.sheet.specs.Writer.{out_of_limits, no_such_vertex}
-use Rattle.sheet.specs.Checker.{kindIn, verticesIn, facesIn, facesStart, orderStart, matesStart, parse, order_in, matesIn, wrong_order, wrong_mate}
+use Rattle.sheet.specs.Checker.{kind_in, vertices_in, faces_in, faces_start, order_start, mates_start, parse, order_in, mates_in, wrong_order, wrong_mate}
 use Rattle.sheet_laws.specs.OrderAndMates.{is-order}
 use Rattle.sheet_readers.specs.Opened.{Opened}
 use Rattle.sheet_laws.specs.Reading.{faces-length}
 use Rattle.sheet_readers.proofs.Parsed.{vertices-length}
 use Rattle.sheet_layout.specs.LittleEndian.{unpack, doubles}
 use Rattle.sheet_layout.proofs.Lists.{unpack-length}
-use Rattle.checker_lists.specs.Stages.{indicesCause, listsCause, Loaded, Ready}
+use Rattle.checker_lists.specs.Stages.{indices_cause, lists_cause, Loaded, Ready}
 
 second : (a b : Bool) → (a || b) ≡ true → a ≡ false → b ≡ true
 second true b e z = cc
@@ -41,16 +41,16 @@ two-corners kind v f e z =
 
 -- the lists, as they are read
 module _ (b : List ℕ) {n : ℕ} where
-  pub vertices-loaded : n ≡ 3 * verticesIn b → doubles (unpack 8 n b 0) ≡ (parse b).vertices
+  pub vertices_loaded : n ≡ 3 * vertices_in b → doubles (unpack 8 n b 0) ≡ (parse b).vertices
   unfolding parse
-  vertices-loaded e = rw e
+  vertices_loaded e = rw e
 
-  pub faces-loaded : {at : ℕ} → n ≡ 3 * facesIn b → at ≡ facesStart b → unpack 4 n b at ≡ (parse b).faces
+  pub faces_loaded : {at : ℕ} → n ≡ 3 * faces_in b → at ≡ faces_start b → unpack 4 n b at ≡ (parse b).faces
   unfolding parse
-  faces-loaded e p = rw (e, p)
+  faces_loaded e p = rw (e, p)
 
-  pub order-loaded : {at : ℕ} → n ≡ 3 * facesIn b → at ≡ orderStart b → unpack 4 n b at ≡ order_in b
-  order-loaded e p = rw (e, p)
+  pub order_loaded : {at : ℕ} → n ≡ 3 * faces_in b → at ≡ order_start b → unpack 4 n b at ≡ order_in b
+  order_loaded e p = rw (e, p)
 
 module _ (b : List ℕ) (h : Opened b) where
   body : no_such_vertex (parse b) ≡ None → Body (parse b).vertices (parse b).faces
@@ -70,37 +70,37 @@ module _ (b : List ℕ) (h : Opened b) where
     vertices = refl;
     faces = refl;
     body = body e;
-    corners = λ z. omega (arith, vertices-length b, two-corners (kindIn b) (verticesIn b) (facesIn b) h.known z);
+    corners = λ z. omega (arith, vertices-length b, two-corners (kind_in b) (vertices_in b) (faces_in b) h.known z);
   }
 
-  none-order : listsCause b ≡ None → (no_such_vertex (parse b) ≡ None) × (wrong_order (parse b).faces (order_in b) ≡ None) × (wrong_mate (parse b).faces (matesIn b) ≡ None)
-  unfolding listsCause indicesCause
+  none-order : lists_cause b ≡ None → (no_such_vertex (parse b) ≡ None) × (wrong_order (parse b).faces (order_in b) ≡ None) × (wrong_mate (parse b).faces (mates_in b) ≡ None)
+  unfolding lists_cause indices_cause
   none-order e =
       let q = both (no_such_vertex (parse b)) _ (both (out_of_limits (parse b)) _ e).1 in
       let r = both (wrong_order (parse b).faces (order_in b)) _ q.1 in
       (q.0, r.0, r.1)
 
-module _ (b : List ℕ) (v : List Float) (f o : List ℕ) (l : Loaded b v f o) (e : listsCause b ≡ None) where
-  pub now-ready : Ready b v f
-  now-ready = rw (l.vertices, l.faces) (ready b l.opened (none-order b l.opened e).0)
+module _ (b : List ℕ) (v : List Float) (f o : List ℕ) (l : Loaded b v f o) (e : lists_cause b ≡ None) where
+  pub now_ready : Ready b v f
+  now_ready = rw (l.vertices, l.faces) (ready b l.opened (none-order b l.opened e).0)
 
-  pub order-length : length o ≡ 3 * facesIn b
-  order-length = ap length l.order ∙ unpack-length 4 (3 * facesIn b) b _
+  pub order-length : length o ≡ 3 * faces_in b
+  order-length = ap length l.order ∙ unpack-length 4 (3 * faces_in b) b _
 
   pub in_order : o ≡ order_list f
   in_order =
       let n : length o ≡ length f = order-length ∙ sym (ap length l.faces ∙ faces-length b) in
-      is-order f o n (rw (l.faces, l.order) (none-order b l.opened e).1) now-ready.body.faces
+      is-order f o n (rw (l.faces, l.order) (none-order b l.opened e).1) now_ready.body.faces
 
 -- ---- 4, 17 and 18 of the lists as they are read: f is the face list, o the order list
 
 module _ (b f : List ℕ) (q : f ≡ (parse b).faces) where
-  pub vertex-is : (v : ℕ) → v ≡ verticesIn b → mesh.no_such_vertex v f ≡ no_such_vertex (parse b)
+  pub vertex-is : (v : ℕ) → v ≡ vertices_in b → mesh.no_such_vertex v f ≡ no_such_vertex (parse b)
   unfolding no_such_vertex
   vertex-is v p =
-      let third : 3 * verticesIn b / 3 ≡ verticesIn b = omega arith in
+      let third : 3 * vertices_in b / 3 ≡ vertices_in b = omega arith in
       ap₂ mesh.no_such_vertex (p ∙ sym (ap (λ (k : ℕ). k / 3) (vertices-length b) ∙ third)) q
 
-  pub lists-are : {at : ℕ} (o : List ℕ) → o ≡ order_in b → at ≡ matesStart b
-      → or_else (wrong_order f o) (wrong_mate f (unpack 4 (length f) b at)) ≡ or_else (wrong_order (parse b).faces (order_in b)) (wrong_mate (parse b).faces (matesIn b))
-  lists-are o p e = rw (p, e, q, faces-length b)
+  pub lists_are : {at : ℕ} (o : List ℕ) → o ≡ order_in b → at ≡ mates_start b
+      → or_else (wrong_order f o) (wrong_mate f (unpack 4 (length f) b at)) ≡ or_else (wrong_order (parse b).faces (order_in b)) (wrong_mate (parse b).faces (mates_in b))
+  lists_are o p e = rw (p, e, q, faces-length b)

@@ -6,32 +6,32 @@ use Rattle.refusals.specs.declared.Cause.{Cause}
 use Rattle.mesh.specs.Surface.{Body}
 use Rattle.sheet_rows.specs.Kinds.{is_mesh}
 use Rattle.sheet.specs.Writer.{out_of_limits, no_such_vertex}
-use Rattle.sheet.specs.Checker.{kindIn, verticesIn, facesIn, stationsIn, parse, order_in, matesIn, wrong_order, wrong_mate, solid_cause, wrongVolume, checkStation}
+use Rattle.sheet.specs.Checker.{kind_in, vertices_in, faces_in, stations_in, parse, order_in, mates_in, wrong_order, wrong_mate, solid_cause, wrong_volume, check_station}
 use Rattle.sheet_readers.specs.Opened.{Opened}
 
 module _ (b : List ℕ) where
   -- 4, 17 and 18, of the lists of indices
-  unfoldable pub indicesCause : Cause
-  indicesCause = or_else (no_such_vertex (parse b)) (or_else (wrong_order (parse b).faces (order_in b)) (wrong_mate (parse b).faces (matesIn b)))
+  unfoldable pub indices_cause : Cause
+  indices_cause = or_else (no_such_vertex (parse b)) (or_else (wrong_order (parse b).faces (order_in b)) (wrong_mate (parse b).faces (mates_in b)))
 
   -- 3, 4, 17 and 18
-  unfoldable pub listsCause : Cause
-  listsCause = or_else (out_of_limits (parse b)) indicesCause
+  unfoldable pub lists_cause : Cause
+  lists_cause = or_else (out_of_limits (parse b)) indices_cause
 
   -- 7 and 8 or 9, and 19
-  unfoldable pub volumeCause : Cause
-  volumeCause = or_else (solid_cause (parse b)) (wrongVolume b (parse b))
+  unfoldable pub volume_cause : Cause
+  volume_cause = or_else (solid_cause (parse b)) (wrong_volume b (parse b))
 
   -- by station 10 or 11, 13, 20
   unfoldable pub stations_cause : Cause
-  stations_cause = first_of (stationsIn b) (checkStation b (parse b))
+  stations_cause = first_of (stations_in b) (check_station b (parse b))
 
 -- room for the lists of a sheet that 16, 1 and 2 let through: v coordinates, f corners, an order list of o entries
 pub record Room (b : List ℕ) (v f o : ℕ) : Type 0 where
   pub opened : Opened b
-  pub vertices : v ≡ 3 * verticesIn b
-  pub faces : f ≡ 3 * facesIn b
-  pub order : o ≡ 3 * facesIn b
+  pub vertices : v ≡ 3 * vertices_in b
+  pub faces : f ≡ 3 * faces_in b
+  pub order : o ≡ 3 * faces_in b
 
 -- and the lists, read
 pub record Loaded (b : List ℕ) (v : List Float) (f o : List ℕ) : Type 0 where
@@ -46,4 +46,4 @@ pub record Ready (b : List ℕ) (v : List Float) (f : List ℕ) : Type 0 where
   pub vertices : v ≡ (parse b).vertices
   pub faces : f ≡ (parse b).faces
   pub body : Body v f
-  pub corners : is_mesh (kindIn b) ≡ false → 6 ≤ length v
+  pub corners : is_mesh (kind_in b) ≡ false → 6 ≤ length v

@@ -5,7 +5,7 @@ ghost use Rattle.std.specs.Prelude.{◌≡◌, length};
 ghost use Rattle.sheet.specs.Writer.{out_of_limits};
 ghost use Rattle.sheet.specs.Checker.{parse};
 ghost use Rattle.sheet_readers.specs.Opened.{Opened};
-ghost use Rattle.checker_lists.specs.Stages.{indicesCause, listsCause, Room, Loaded};
+ghost use Rattle.checker_lists.specs.Stages.{indices_cause, lists_cause, Room, Loaded};
 
 use checker_order::wrong_lists;
 use mesh::scan::no_such_vertex;
@@ -48,7 +48,7 @@ fn out_of_limits(sheet: &[u8], verts: &[f64]) -> Cause
 // The causes 4, 17 and 18. The mates are judged where they stand.
 fn indices_cause(sheet: &[u8], verts: &[f64], faces: &[u32], order: &[u32]) -> Cause
     requires { Loaded sheet.now verts.now faces.now order.now }
-    ensures { result ≡ indicesCause sheet.now }
+    ensures { result ≡ indices_cause sheet.now }
 {
     let v = sheet_readers::vertices(sheet) as usize;
     let f = sheet_readers::faces(sheet) as usize;
@@ -62,7 +62,7 @@ fn indices_cause(sheet: &[u8], verts: &[f64], faces: &[u32], order: &[u32]) -> C
 // Reads the lists, and tries the causes 3, 4, 17 and 18.
 pub fn lists_cause(sheet: &[u8], verts: &mut [f64], faces: &mut [u32], order: &mut [u32]) -> Cause
     requires { Room sheet.now (length verts.old) (length faces.old) (length order.old) }
-    ensures value { result ≡ listsCause sheet.now }
+    ensures value { result ≡ lists_cause sheet.now }
     ensures loaded { Loaded sheet.now verts.new faces.new order.new }
 {
     read_lists(sheet, verts, faces, order);

@@ -13,14 +13,14 @@ use Rattle.sheet.specs.Checker.{ascends}
 -- ---- 17: u is the entry
 
 module _ (f o : List ℕ) (i u : ℕ) (e : get_or o i 0 ≡ u) where
-  pub no-use : length f ≤ u → ascends f o i ≡ false
-  no-use h = rw (e, le-ltb u (length f) h)
+  pub no_use : length f ≤ u → ascends f o i ≡ false
+  no_use h = rw (e, le-ltb u (length f) h)
 
   abbrev pub AboveLast : Bool
   AboveLast = eqb i 0 || ltb (edge f (get_or o (i - 1) 0)) (edge f u)
 
-  pub a-use : {t : Bool} → u < length f → AboveLast ≡ t → ascends f o i ≡ t
-  a-use h q = rw (e, lt-ltb u (length f) h) q
+  pub a_use : {t : Bool} → u < length f → AboveLast ≡ t → ascends f o i ≡ t
+  a_use h q = rw (e, lt-ltb u (length f) h) q
 
 -- the last edge, if there is one
 abbrev pub Last : List ℕ → List ℕ → ℕ → ℕ → Type 0

@@ -13,7 +13,7 @@ use Rattle.lists.proofs.Numbers.{both}
 use Rattle.mesh_orders.specs.Edges.{edge_number, edge, reverse}
 use Rattle.sheet_layout.specs.LittleEndian.{number, unpack}
 use Rattle.sheet_layout.proofs.Lists.{unpack-at}
-use Rattle.mesh.proofs.Scans.{scan-more, scan-stop}
+use Rattle.mesh.proofs.Scans.{scan_more, scan_stop}
 use Rattle.sheet.specs.Checker.{is_reverse, wrong_mate}
 use Rattle.checker_order.specs.Reverses.{reverses}
 
@@ -26,25 +26,25 @@ abbrev pub Tested : List ℕ → ℕ → ℕ → ℕ → Bool
 Tested f w a b = ltb w (length f) && eqb (edge f w) (edge_number a b)
 
 module _ (b : List ℕ) (at : ℕ) (f : List ℕ) where
-  abbrev pub matesAt : List ℕ
-  matesAt = unpack 4 (length f) b at
+  abbrev pub mates_standing : List ℕ
+  mates_standing = unpack 4 (length f) b at
 
-  tested : (u w x y : ℕ) → u < length f → w ≡ number 4 b (at + 4 * u) → reverse f u ≡ edge_number x y → Tested f w x y ≡ is_reverse f matesAt u
+  tested : (u w x y : ℕ) → u < length f → w ≡ number 4 b (at + 4 * u) → reverse f u ≡ edge_number x y → Tested f w x y ≡ is_reverse f mates_standing u
   tested u w x y h e q = rw (number_at b at (length f) u h ∙ sym e, q)
 
   module _ (i : ℕ) (t : i % 3 ≡ 0) (h : i + 2 < length f) where
-    pub first : (w : ℕ) → w ≡ number 4 b (at + 4 * i) → Tested f w (get_or f (i + 1) 0) (get_or f i 0) ≡ is_reverse f matesAt i
+    pub first : (w : ℕ) → w ≡ number 4 b (at + 4 * i) → Tested f w (get_or f (i + 1) 0) (get_or f i 0) ≡ is_reverse f mates_standing i
     unfolding reverse
     first w e = let n : i / 3 * 3 + (i + 1) % 3 ≡ i + 1 = omega arith in tested i w _ _ (omega arith) e (rw n)
 
-    pub second : (w : ℕ) → w ≡ number 4 b (at + 4 * i + 4) → Tested f w (get_or f (i + 2) 0) (get_or f (i + 1) 0) ≡ is_reverse f matesAt (i + 1)
+    pub second : (w : ℕ) → w ≡ number 4 b (at + 4 * i + 4) → Tested f w (get_or f (i + 2) 0) (get_or f (i + 1) 0) ≡ is_reverse f mates_standing (i + 1)
     unfolding reverse
     second w e =
         let n : (i + 1) / 3 * 3 + (i + 1 + 1) % 3 ≡ i + 2 = omega arith in
         let p : at + 4 * i + 4 ≡ at + 4 * (i + 1) = omega arith in
         tested (i + 1) w _ _ (omega arith) (e ∙ ap (number 4 b) p) (rw n)
 
-    pub third : (w : ℕ) → w ≡ number 4 b (at + 4 * i + 8) → Tested f w (get_or f i 0) (get_or f (i + 2) 0) ≡ is_reverse f matesAt (i + 2)
+    pub third : (w : ℕ) → w ≡ number 4 b (at + 4 * i + 8) → Tested f w (get_or f i 0) (get_or f (i + 2) 0) ≡ is_reverse f mates_standing (i + 2)
     unfolding reverse
     third w e =
         let n : (i + 2) / 3 * 3 + (i + 2 + 1) % 3 ≡ i = omega arith in
@@ -67,9 +67,9 @@ module _ (f m : List ℕ) (i : ℕ) where
   unfolding reverses
   not-second e d = rw (e, d)
 
-  pub up-to-third : is_reverse f m i ≡ true → is_reverse f m (i + 1) ≡ true → is_reverse f m (i + 2) ≡ reverses f m i
+  pub up_to-third : is_reverse f m i ≡ true → is_reverse f m (i + 1) ≡ true → is_reverse f m (i + 2) ≡ reverses f m i
   unfolding reverses
-  up-to-third e d = rw (e, d)
+  up_to-third e d = rw (e, d)
 
 module _ (f m : List ℕ) where
   -- the mates below i are reverses
@@ -77,11 +77,11 @@ module _ (f m : List ℕ) where
   Mates i = first_of i (λ j. unless (is_reverse f m j) WrongMate) ≡ None
 
   one_more : (i : ℕ) → Mates i → is_reverse f m i ≡ true → Mates (i + 1)
-  one_more = scan-more (length f) (is_reverse f m) (λ j. WrongMate)
+  one_more = scan_more (length f) (is_reverse f m) (λ j. WrongMate)
 
-  one-stop : (i : ℕ) → i < length f → Mates i → is_reverse f m i ≡ false → Refused WrongMate ≡ wrong_mate f m
+  one_stop : (i : ℕ) → i < length f → Mates i → is_reverse f m i ≡ false → Refused WrongMate ≡ wrong_mate f m
   unfolding wrong_mate
-  one-stop = scan-stop (length f) (is_reverse f m) (λ j. WrongMate)
+  one_stop = scan_stop (length f) (is_reverse f m) (λ j. WrongMate)
 
   two : (i : ℕ) → i + 1 + 1 ≡ i + 2
   two i = omega arith
@@ -89,17 +89,17 @@ module _ (f m : List ℕ) where
   third_at : (i : ℕ) {t : Bool} → is_reverse f m (i + 2) ≡ t → is_reverse f m (i + 1 + 1) ≡ t
   third_at i e = ap (is_reverse f m) (two i) ∙ e
 
-  pub three-more : (i : ℕ) → Mates i → reverses f m i ≡ true → Mates (i + 3)
+  pub three_more : (i : ℕ) → Mates i → reverses f m i ≡ true → Mates (i + 3)
   unfolding reverses
-  three-more i h e =
+  three_more i h e =
       let p = both (is_reverse f m i) _ e in
       let q = both (is_reverse f m (i + 1)) _ p.1 in
       let n : i + 1 + 1 + 1 ≡ i + 3 = omega arith in
       subst Mates n (one_more (i + 1 + 1) (one_more (i + 1) (one_more i h p.0) q.0) (third_at i q.1))
 
-  pub three-stop : (i : ℕ) → i + 2 < length f → Mates i → reverses f m i ≡ false → Refused WrongMate ≡ wrong_mate f m
+  pub three_stop : (i : ℕ) → i + 2 < length f → Mates i → reverses f m i ≡ false → Refused WrongMate ≡ wrong_mate f m
   unfolding reverses
-  three-stop i l h e =
-      stopped (is_reverse f m i) (is_reverse f m (i + 1)) (is_reverse f m (i + 2)) e (λ x. one-stop i (omega arith) h x)
-      (λ x y. one-stop (i + 1) (omega arith) (one_more i h x) y)
-      (λ x y z. one-stop (i + 1 + 1) (omega arith) (one_more (i + 1) (one_more i h x) y) (third_at i z))
+  three_stop i l h e =
+      stopped (is_reverse f m i) (is_reverse f m (i + 1)) (is_reverse f m (i + 2)) e (λ x. one_stop i (omega arith) h x)
+      (λ x y. one_stop (i + 1) (omega arith) (one_more i h x) y)
+      (λ x y z. one_stop (i + 1 + 1) (omega arith) (one_more (i + 1) (one_more i h x) y) (third_at i z))

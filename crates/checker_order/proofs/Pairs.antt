@@ -14,7 +14,7 @@ use Rattle.sheet_layout.specs.LittleEndian.{number}
 use Rattle.mesh.specs.CauseLaws.{each_none}
 use Rattle.sheet.specs.Checker.{is_reverse, wrong_mate}
 use Rattle.checker_order.specs.Paired.{PairedAt, PairedFace, Paired}
-use Rattle.checker_order.proofs.Mates.{matesAt, number_at}
+use Rattle.checker_order.proofs.Mates.{mates_standing, number_at}
 
 -- ---- what is found of a use u: its mate w is a use that leaves x and has the mate u
 
@@ -22,19 +22,19 @@ abbrev pub Found : List ℕ → ℕ → List ℕ → ℕ → ℕ → ℕ → Typ
 Found b at f u w x = (w < length f) × (get_or f w 0 ≡ x) × (number 4 b (at + 4 * w) ≡ u)
 
 module _ (b : List ℕ) (at : ℕ) (f : List ℕ) where
-  pub mate-at : (u w : ℕ) → u < length f → w ≡ number 4 b (at + 4 * u) → get_or (matesAt b at f) u 0 ≡ w
+  pub mate-at : (u w : ℕ) → u < length f → w ≡ number 4 b (at + 4 * u) → get_or (mates_standing b at f) u 0 ≡ w
   mate-at u w h e = number_at b at (length f) u h ∙ sym e
 
-  paired_at : (u w x : ℕ) → u < length f → w ≡ number 4 b (at + 4 * u) → x ≡ to f u → Found b at f u w x → PairedAt f (matesAt b at f) u
+  paired_at : (u w x : ℕ) → u < length f → w ≡ number 4 b (at + 4 * u) → x ≡ to f u → Found b at f u w x → PairedAt f (mates_standing b at f) u
   paired_at u w x h e q k =
       let p = mate-at u w h e in
-      record { within = omega (arith, p, k.0); meets = ap (from f) p ∙ k.1 ∙ q; back = ap (λ (z : ℕ). get_or (matesAt b at f) z 0) p ∙ number_at b at (length f) w k.0 ∙ k.2 }
+      record { within = omega (arith, p, k.0); meets = ap (from f) p ∙ k.1 ∙ q; back = ap (λ (z : ℕ). get_or (mates_standing b at f) z 0) p ∙ number_at b at (length f) w k.0 ∙ k.2 }
 
   -- of the three uses of a face
   module _ (i : ℕ) (t : i % 3 ≡ 0) (h : i + 2 < length f) where
-    pub paired-face : (w w' w'' : ℕ) → w ≡ number 4 b (at + 4 * i) → w' ≡ number 4 b (at + 4 * i + 4) → w'' ≡ number 4 b (at + 4 * i + 8)
-        → Found b at f i w (get_or f (i + 1) 0) → Found b at f (i + 1) w' (get_or f (i + 2) 0) → Found b at f (i + 2) w'' (get_or f i 0) → PairedFace f (matesAt b at f) i
-    paired-face w w' w'' e e' e'' k k' k'' =
+    pub paired_face : (w w' w'' : ℕ) → w ≡ number 4 b (at + 4 * i) → w' ≡ number 4 b (at + 4 * i + 4) → w'' ≡ number 4 b (at + 4 * i + 8)
+        → Found b at f i w (get_or f (i + 1) 0) → Found b at f (i + 1) w' (get_or f (i + 2) 0) → Found b at f (i + 2) w'' (get_or f i 0) → PairedFace f (mates_standing b at f) i
+    paired_face w w' w'' e e' e'' k k' k'' =
         let n : i + 1 ≡ i / 3 * 3 + (i + 1) % 3 = omega arith in
         let n' : i + 2 ≡ (i + 1) / 3 * 3 + (i + 1 + 1) % 3 = omega arith in
         let n'' : i ≡ (i + 2) / 3 * 3 + (i + 2 + 1) % 3 = omega arith in
@@ -60,14 +60,14 @@ module _ (f m : List ℕ) (h : Paired f m) where
   unfolding edge
   mate-edge u l = ap (edge_number (from f u)) (h u l).meets
 
-  paired-reverse : (u : ℕ) → u < length f → is_reverse f m u ≡ true
+  paired_reverse : (u : ℕ) → u < length f → is_reverse f m u ≡ true
   unfolding edge reverse
-  paired-reverse u l =
+  paired_reverse u l =
       let w = get_or m u 0 in
       let a = h u l in
       let c = h w a.within in
       rw (lt-ltb w (length f) a.within) (eq-eqb _ _ (ap₂ edge_number a.meets (sym c.meets ∙ ap (from f) a.back)))
 
-  pub no-wrong-mate : wrong_mate f m ≡ None
+  pub no_wrong_mate : wrong_mate f m ≡ None
   unfolding wrong_mate
-  no-wrong-mate = each_none (length f) (is_reverse f m) (λ u. WrongMate) paired-reverse
+  no_wrong_mate = each_none (length f) (is_reverse f m) (λ u. WrongMate) paired_reverse

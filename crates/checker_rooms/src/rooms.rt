@@ -1,7 +1,7 @@
 // Room for a body's vertices, faces and order list in six sizes: to clear the largest takes longer than to check a small body.
 ghost use Rattle.std.specs.Prelude.{◌≡◌, ◌&&◌, ◌*◌, ◌≤◌, ◌<◌, leb, length};
 ghost use Rattle.mesh_orders.specs.Edges.{max_vertices};
-ghost use Rattle.sheet.specs.Checker.{verticesIn, facesIn};
+ghost use Rattle.sheet.specs.Checker.{vertices_in, faces_in};
 ghost use Rattle.sheet_readers.specs.Opened.{Opened};
 ghost use Rattle.checker_rooms.specs.Later.{later_outcome};
 
@@ -88,7 +88,7 @@ fn uses_all() -> [u32; 98304]
 
 // At most 40 vertices and 80 faces.
 fn in_room_40(sheet: &[u8]) -> Outcome
-    requires { Opened sheet.now × (verticesIn sheet.now ≤ 40) × (facesIn sheet.now ≤ 80) }
+    requires { Opened sheet.now × (vertices_in sheet.now ≤ 40) × (faces_in sheet.now ≤ 80) }
     ensures { result ≡ later_outcome sheet.now }
 {
     let mut verts = vertices_40();
@@ -99,7 +99,7 @@ fn in_room_40(sheet: &[u8]) -> Outcome
 
 // At most 160 vertices and 320 faces.
 fn in_room_160(sheet: &[u8]) -> Outcome
-    requires { Opened sheet.now × (verticesIn sheet.now ≤ 160) × (facesIn sheet.now ≤ 320) }
+    requires { Opened sheet.now × (vertices_in sheet.now ≤ 160) × (faces_in sheet.now ≤ 320) }
     ensures { result ≡ later_outcome sheet.now }
 {
     let mut verts = vertices_160();
@@ -110,7 +110,7 @@ fn in_room_160(sheet: &[u8]) -> Outcome
 
 // At most 640 vertices and 1,280 faces.
 fn in_room_640(sheet: &[u8]) -> Outcome
-    requires { Opened sheet.now × (verticesIn sheet.now ≤ 640) × (facesIn sheet.now ≤ 1280) }
+    requires { Opened sheet.now × (vertices_in sheet.now ≤ 640) × (faces_in sheet.now ≤ 1280) }
     ensures { result ≡ later_outcome sheet.now }
 {
     let mut verts = vertices_640();
@@ -121,7 +121,7 @@ fn in_room_640(sheet: &[u8]) -> Outcome
 
 // At most 2,560 vertices and 5,120 faces.
 fn in_room_2560(sheet: &[u8]) -> Outcome
-    requires { Opened sheet.now × (verticesIn sheet.now ≤ 2560) × (facesIn sheet.now ≤ 5120) }
+    requires { Opened sheet.now × (vertices_in sheet.now ≤ 2560) × (faces_in sheet.now ≤ 5120) }
     ensures { result ≡ later_outcome sheet.now }
 {
     let mut verts = vertices_2560();
@@ -132,7 +132,7 @@ fn in_room_2560(sheet: &[u8]) -> Outcome
 
 // At most 10,240 vertices and 20,480 faces.
 fn in_room_10240(sheet: &[u8]) -> Outcome
-    requires { Opened sheet.now × (verticesIn sheet.now ≤ 10240) × (facesIn sheet.now ≤ 20480) }
+    requires { Opened sheet.now × (vertices_in sheet.now ≤ 10240) × (faces_in sheet.now ≤ 20480) }
     ensures { result ≡ later_outcome sheet.now }
 {
     let mut verts = vertices_10240();
@@ -155,7 +155,7 @@ fn in_room_all(sheet: &[u8]) -> Outcome
 // Whether the room for n vertices holds the body.
 fn fits(sheet: &[u8], n: u32) -> bool
     requires { Opened sheet.now × (n < 4 * max_vertices) }
-    ensures { result ≡ (leb (verticesIn sheet.now) n && leb (facesIn sheet.now) (2 * n)) }
+    ensures { result ≡ (leb (vertices_in sheet.now) n && leb (faces_in sheet.now) (2 * n)) }
 {
     if n < sheet_readers::vertices(sheet) {
         return false;

@@ -1,6 +1,6 @@
 // The stages after the opening, one after the other, in room that is lent.
 ghost use Rattle.std.specs.Prelude.{◌≡◌, ◌*◌, ◌≤◌, length};
-ghost use Rattle.sheet.specs.Checker.{verticesIn, facesIn};
+ghost use Rattle.sheet.specs.Checker.{vertices_in, faces_in};
 ghost use Rattle.sheet_readers.specs.Opened.{Opened};
 ghost use Rattle.checker_lists.specs.Stages.{Room};
 ghost use Rattle.checker_rooms.specs.Later.{later_outcome};
@@ -31,7 +31,7 @@ pub(crate) fn in_room(
     faces: &mut [u32],
     order: &mut [u32],
 ) -> Outcome
-    requires { Opened sheet.now × (3 * verticesIn sheet.now ≤ length verts.old) × (3 * facesIn sheet.now ≤ length faces.old) × (3 * facesIn sheet.now ≤ length order.old) }
+    requires { Opened sheet.now × (3 * vertices_in sheet.now ≤ length verts.old) × (3 * faces_in sheet.now ≤ length faces.old) × (3 * faces_in sheet.now ≤ length order.old) }
     ensures { result ≡ later_outcome sheet.now }
 {
     let v = 3 * (sheet_readers::vertices(sheet) as usize);

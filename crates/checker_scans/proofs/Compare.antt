@@ -32,12 +32,12 @@ module _ (b : List ℕ) where
   same (x ∷ xs) at h =
       rw (eq-eqb (number 8 b at) (to_bits binary64 x) (sym (first at) ∙ h 0 (omega arith))) (same xs (at + 8) (λ i l. next x xs at i (h (suc i) (omega arith))))
 
-  and-false : (t : Bool) → (t && false) ≡ false
-  and-false true = refl
-  and-false false = refl
+  and_false : (t : Bool) → (t && false) ≡ false
+  and_false true = refl
+  and_false false = refl
 
   pub other : (xs : List Float) (at i : ℕ) → i < length xs → (Same xs at i → ⊥) → same_numbers (unpack 8 (length xs) b at) (bits xs) ≡ false
   unfolding unpack
   other [] at i l n = absurd (not-suc-le-zero l)
   other (x ∷ xs) at zero l n = rw (ne_eqb (number 8 b at) (to_bits binary64 x) (λ e. n (first at ∙ e)))
-  other (x ∷ xs) at (suc i) l n = rw (other xs (at + 8) i (omega arith) (λ e. n (back x xs at i e))) (and-false (eqb (number 8 b at) (to_bits binary64 x)))
+  other (x ∷ xs) at (suc i) l n = rw (other xs (at + 8) i (omega arith) (λ e. n (back x xs at i e))) (and_false (eqb (number 8 b at) (to_bits binary64 x)))

@@ -10,7 +10,7 @@ use Rattle.newtonian.specs.declared.Vector.{Vector}
 use Rattle.mesh.specs.Surface.{vertex}
 use Rattle.sheet_layout.specs.LittleEndian.{number, unpack, doubles}
 use Rattle.sheet_layout.proofs.Lists.{unpack-at, unpack-length}
-use Rattle.sheet.specs.Checker.{vectorIn}
+use Rattle.sheet.specs.Checker.{vector_in}
 
 doubles_get : (ns : List ℕ) (i : ℕ) → i < length ns → get_or (doubles ns) i nan ≡ of_bits binary64 (get_or ns i 0)
 doubles_get [] i h = absurd (not-suc-le-zero h)
@@ -28,7 +28,7 @@ vectors : {x x' y y' z z' : Float} → x ≡ x' → y ≡ y' → z ≡ z' → �
 vectors p q r = cc
 
 -- a vertex or station of a list of n
-pub vertex_read : (b : List ℕ) (at n i : ℕ) → i < n → vertex (doubles (unpack 8 (3 * n) b at)) i ≡ vectorIn b (at + 24 * i)
+pub vertex_read : (b : List ℕ) (at n i : ℕ) → i < n → vertex (doubles (unpack 8 (3 * n) b at)) i ≡ vector_in b (at + 24 * i)
 unfolding unpack
 vertex_read b at n i h =
     let p : at + 8 * (3 * i) ≡ at + 24 * i = omega arith in

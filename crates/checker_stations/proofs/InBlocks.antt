@@ -26,8 +26,8 @@ module _ (k n : ℕ) (c : ℕ → Cause) (none : first_of k c ≡ None) where
   block : first_of (k + n) c ≡ first_of n (λ j. c (k + j))
   block = first-add k n c ∙ ap (λ (x : Cause). or_else x (first_of n (λ j. c (k + j)))) none
 
-  pub block-passed : first_of n (λ j. c (k + j)) ≡ None → first_of (k + n) c ≡ None
-  block-passed e = block ∙ e
+  pub block_passed : first_of n (λ j. c (k + j)) ≡ None → first_of (k + n) c ≡ None
+  block_passed e = block ∙ e
 
   pub block_refused : (m : ℕ) (r : Refusal) → k + n ≤ m → first_of n (λ j. c (k + j)) ≡ Refused r → first_of m c ≡ Refused r
   block_refused m r l e =

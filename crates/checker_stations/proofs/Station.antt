@@ -18,47 +18,47 @@ use Rattle.sheet_rows.specs.Row.{field_at, in_row}
 use Rattle.sheet_rows.proofs.RowMade.{row_made}
 use Rattle.sheet_rows.specs.declared.Row.{Row}
 use Rattle.sheet.specs.Input.{row_at}
-use Rattle.sheet.specs.Writer.{stationCause}
-use Rattle.sheet.specs.Checker.{kindIn, stationsIn, stationsStart, rowStart, vectorIn, parse, same_numbers, wrongRow, checkStation}
-use Rattle.sheet_laws.specs.Reading.{kind-read}
+use Rattle.sheet.specs.Writer.{station_cause}
+use Rattle.sheet.specs.Checker.{kind_in, stations_in, stations_start, row_start, vector_in, parse, same_numbers, wrong_row, check_station}
+use Rattle.sheet_laws.specs.Reading.{kind_read}
 use Rattle.checker_scans.proofs.Read.{vertex_read}
 use Rattle.checker_stations.specs.FieldIn.{field_in}
 
 module _ (b : List ℕ) (i : ℕ) where
-  pub row_is : (m a : Vector) (q : Answer Newtonian) → m ≡ (parse b).magnetisation → a ≡ (parse b).ambient → q ≡ field_in b i → in_row (kindIn b) m a q ≡ row_at (parse b) i
+  pub row_is : (m a : Vector) (q : Answer Newtonian) → m ≡ (parse b).magnetisation → a ≡ (parse b).ambient → q ≡ field_in b i → in_row (kind_in b) m a q ≡ row_at (parse b) i
   unfolding row_at parse
-  row_is m a q em ea e = row_made (kindIn b) i m a (vertex (parse b).stations i) (parse b).vertices (parse b).faces q e ∙ rw (em, ea)
+  row_is m a q em ea e = row_made (kind_in b) i m a (vertex (parse b).stations i) (parse b).vertices (parse b).faces q e ∙ rw (em, ea)
 
-  pub field_is : (kind : ℕ) (p : Vector) (v : List Float) (f : List ℕ) → kind ≡ kindIn b → p ≡ vertex (parse b).stations i → v ≡ (parse b).vertices → f ≡ (parse b).faces
+  pub field_is : (kind : ℕ) (p : Vector) (v : List Float) (f : List ℕ) → kind ≡ kind_in b → p ≡ vertex (parse b).stations i → v ≡ (parse b).vertices → f ≡ (parse b).faces
       → field_at kind i p v f ≡ field_in b i
   field_is kind p v f ek ep ev ef = rw (ek, ep, ev, ef)
 
   -- the place of a station
-  pub place_is : (p : Vector) → i < stationsIn b → p ≡ vectorIn b (stationsStart b + 24 * i) → p ≡ vertex (parse b).stations i
+  pub place_is : (p : Vector) → i < stations_in b → p ≡ vector_in b (stations_start b + 24 * i) → p ≡ vertex (parse b).stations i
   unfolding parse
-  place_is p l e = e ∙ sym (vertex_read b (stationsStart b) (stationsIn b) i l)
+  place_is p l e = e ∙ sym (vertex_read b (stations_start b) (stations_in b) i l)
 
   module _ (answer : Answer Row) (w : answer ≡ row_at (parse b) i) where
-    cause-is : stationCause (parse b) i ≡ row.row_cause (kindIn b) i answer
-    unfolding stationCause
-    cause-is = ap₂ (λ (k : ℕ) (x : Answer Row). row.row_cause k i x) (kind-read b) (sym w)
+    cause-is : station_cause (parse b) i ≡ row.row_cause (kind_in b) i answer
+    unfolding station_cause
+    cause-is = ap₂ (λ (k : ℕ) (x : Answer Row). row.row_cause k i x) (kind_read b) (sym w)
 
-    pub refused-by : (r : Refusal) → row.row_cause (kindIn b) i answer ≡ Refused r → Refused r ≡ checkStation b (parse b) i
-    unfolding checkStation
+    pub refused-by : (r : Refusal) → row.row_cause (kind_in b) i answer ≡ Refused r → Refused r ≡ check_station b (parse b) i
+    unfolding check_station
     refused-by r e = rw (cause-is ∙ e)
 
-    module _ (e : row.row_cause (kindIn b) i answer ≡ None) where
-      pub same_bits : (r : Row) → answer ≡ value r → same_numbers (unpack 8 (row_width (kindIn b)) b (rowStart b i)) (bits (row.row_numbers (kindIn b) r)) ≡ true
-          → None ≡ checkStation b (parse b) i
-      unfolding checkStation wrongRow
-      same_bits r g t = rw (cause-is ∙ e, sym w ∙ g, kind-read b, t)
+    module _ (e : row.row_cause (kind_in b) i answer ≡ None) where
+      pub same_bits : (r : Row) → answer ≡ value r → same_numbers (unpack 8 (row_width (kind_in b)) b (row_start b i)) (bits (row.row_numbers (kind_in b) r)) ≡ true
+          → None ≡ check_station b (parse b) i
+      unfolding check_station wrong_row
+      same_bits r g t = rw (cause-is ∙ e, sym w ∙ g, kind_read b, t)
 
-      pub other-bits : (r : Row) → answer ≡ value r → same_numbers (unpack 8 (row_width (kindIn b)) b (rowStart b i)) (bits (row.row_numbers (kindIn b) r)) ≡ false
-          → Refused (WrongRow i) ≡ checkStation b (parse b) i
-      unfolding checkStation wrongRow
-      other-bits r g t = rw (cause-is ∙ e, sym w ∙ g, kind-read b, t)
+      pub other-bits : (r : Row) → answer ≡ value r → same_numbers (unpack 8 (row_width (kind_in b)) b (row_start b i)) (bits (row.row_numbers (kind_in b) r)) ≡ false
+          → Refused (WrongRow i) ≡ check_station b (parse b) i
+      unfolding check_station wrong_row
+      other-bits r g t = rw (cause-is ∙ e, sym w ∙ g, kind_read b, t)
 
       -- a refused row has no numbers to compare
-      pub no_bits : (x : Refusal) → answer ≡ refused x → Refused (WrongRow i) ≡ checkStation b (parse b) i
-      unfolding checkStation wrongRow unpack
+      pub no_bits : (x : Refusal) → answer ≡ refused x → Refused (WrongRow i) ≡ check_station b (parse b) i
+      unfolding check_station wrong_row unpack
       no_bits x g = rw (cause-is ∙ e, sym w ∙ g)

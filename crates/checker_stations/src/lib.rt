@@ -9,9 +9,9 @@ ghost use Rattle.mesh.specs.Surface.{vertex};
 ghost use Rattle.polyhedron_blocks.specs.Blocks.{block_size, no_vector};
 ghost use Rattle.polyhedron_fields.specs.BlockFields.{no_field};
 ghost use Rattle.sheet_rows.specs.BodyWithCenter.{center_of};
-ghost use Rattle.sheet.specs.Checker.{kindIn, stationsIn, parse, checkStation};
+ghost use Rattle.sheet.specs.Checker.{kind_in, stations_in, parse, check_station};
 ghost use Rattle.sheet_readers.specs.Opened.{Opened};
-ghost use Rattle.checker_lists.specs.Stages.{listsCause, Loaded, Ready};
+ghost use Rattle.checker_lists.specs.Stages.{lists_cause, Loaded, Ready};
 ghost use Rattle.checker_stations.specs.FieldIn.{field_in};
 ghost use Rattle.checker_stations.specs.Outcome.{refused_by, stations_outcome};
 
@@ -37,9 +37,9 @@ pub fn refused_by(r: Refusal) -> Outcome
 
 // Station i, of which the field is given, with the magnetisation m and the ambient field a.
 fn check_station(sheet: &[u8], i: u32, m: Vector, a: Vector, field: Field) -> Cause
-    requires { Opened sheet.now × (i < stationsIn sheet.now) × (m ≡ (parse sheet.now).magnetisation) × (a ≡ (parse sheet.now).ambient)
+    requires { Opened sheet.now × (i < stations_in sheet.now) × (m ≡ (parse sheet.now).magnetisation) × (a ≡ (parse sheet.now).ambient)
         × (answer_of field ≡ field_in sheet.now i) }
-    ensures { result ≡ checkStation sheet.now (parse sheet.now) i }
+    ensures { result ≡ check_station sheet.now (parse sheet.now) i }
 {
     let kind = sheet_readers::kind(sheet);
     let answer = sheet_rows::row_of(kind, m, a, field);
@@ -57,7 +57,7 @@ fn check_station(sheet: &[u8], i: u32, m: Vector, a: Vector, field: Field) -> Ca
 
 // The n stations from the one with the number first on.
 fn places_in(sheet: &[u8], first: usize, n: usize) -> [Vector; STATIONS]
-    requires { Opened sheet.now × (n ≤ block_size) × (first + n ≤ stationsIn sheet.now) }
+    requires { Opened sheet.now × (n ≤ block_size) × (first + n ≤ stations_in sheet.now) }
     ensures { (j : ℕ) → j < n → get_or result j no_vector ≡ vertex (parse sheet.now).stations (first + j) }
 {
     let start = sheet_readers::stations_start(sheet);
@@ -82,9 +82,9 @@ fn check_block(
     n: usize,
     fields: [Field; STATIONS],
 ) -> Cause
-    requires { Opened sheet.now × (n ≤ block_size) × (first + n ≤ stationsIn sheet.now) × (m ≡ (parse sheet.now).magnetisation) × (a ≡ (parse sheet.now).ambient)
+    requires { Opened sheet.now × (n ≤ block_size) × (first + n ≤ stations_in sheet.now) × (m ≡ (parse sheet.now).magnetisation) × (a ≡ (parse sheet.now).ambient)
         × ((j : ℕ) → j < n → answer_of (get_or fields j no_field) ≡ field_in sheet.now (first + j)) }
-    ensures { result ≡ first_of n (λ j. checkStation sheet.now (parse sheet.now) (first + j)) }
+    ensures { result ≡ first_of n (λ j. check_station sheet.now (parse sheet.now) (first + j)) }
 {
     for j in 0..n {
         let field = fields[j];
@@ -98,7 +98,7 @@ fn check_block(
 
 // All stations in order, with the center of a mesh. The fields of eight stations are made together, and their rows are then judged in order.
 fn check_stations(sheet: &[u8], c: Center, verts: &[f64], faces: &[u32]) -> Outcome
-    requires { Ready sheet.now verts.now faces.now × (c ≡ center_of (kindIn sheet.now) verts.now faces.now) }
+    requires { Ready sheet.now verts.now faces.now × (c ≡ center_of (kind_in sheet.now) verts.now faces.now) }
     ensures { result ≡ stations_outcome sheet.now }
 {
     let t = sheet_readers::trailer(sheet);
@@ -122,7 +122,7 @@ fn check_stations(sheet: &[u8], c: Center, verts: &[f64], faces: &[u32]) -> Outc
 
 // The stations of a sheet whose lists were read and not refused.
 pub fn stations_outcome(sheet: &[u8], verts: &[f64], faces: &[u32], order: &[u32]) -> Outcome
-    requires { Loaded sheet.now verts.now faces.now order.now × (listsCause sheet.now ≡ None) }
+    requires { Loaded sheet.now verts.now faces.now order.now × (lists_cause sheet.now ≡ None) }
     ensures { result ≡ stations_outcome sheet.now }
 {
     let c = sheet_rows::center_of(sheet_readers::kind(sheet), verts, faces, order);

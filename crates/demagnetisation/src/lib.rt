@@ -2,7 +2,7 @@
 #![tactic(auto)]
 
 ghost use Rattle.std.specs.Prelude.{◌≡◌};
-ghost use Rattle.anomaly.specs.Answers.{vectorAnswer, numberAnswer};
+ghost use Rattle.anomaly.specs.Answers.{vector_answer, number_answer};
 ghost use Rattle.demagnetisation.specs.Ellipsoid.{factor, together, factors_of, all_positive, ellipsoid_factors};
 ghost use Rattle.demagnetisation.specs.Magnetisation.{equation, magnetisation_of, magnetisation_within_limits, magnetisation, koenigsberger_of, koenigsberger};
 
@@ -23,7 +23,7 @@ fn factor(x: f64, y: f64, z: f64) -> Integral
 
 // Three factors, or the first refusal among them.
 fn together(a: Integral, b: Integral, c: Integral) -> VectorAnswer
-    ensures { vectorAnswer result ≡ together a b c }
+    ensures { vector_answer result ≡ together a b c }
 {
     match a {
         Integral::Refused(r) => VectorAnswer::Refused(r),
@@ -39,7 +39,7 @@ fn together(a: Integral, b: Integral, c: Integral) -> VectorAnswer
 
 // The factors of semi-axes that are not tested.
 pub fn factors_of(a: f64, b: f64, c: f64) -> VectorAnswer
-    ensures { vectorAnswer result ≡ factors_of a b c }
+    ensures { vector_answer result ≡ factors_of a b c }
 {
     together(factor(b, c, a), factor(c, a, b), factor(a, b, c))
 }
@@ -53,7 +53,7 @@ fn all_positive(a: f64, b: f64, c: f64) -> bool
 // The demagnetising factors of a uniformly magnetised ellipsoid along its semi-axes a, b and c; or refused by 3,
 // by 14 unless all are above 0, or by 15.
 pub fn ellipsoid_factors(a: f64, b: f64, c: f64) -> VectorAnswer
-    ensures { vectorAnswer result ≡ ellipsoid_factors a b c }
+    ensures { vector_answer result ≡ ellipsoid_factors a b c }
 {
     let axes = Vector { x: a, y: b, z: c };
     if newtonian::vector_within_limits(axes) {
@@ -107,7 +107,7 @@ fn magnetisation_within_limits(chi: f64, h0: Vector, remanent: Vector, n: Hessia
 // The magnetisation (A/m) of a body of susceptibility chi (SI) and remanence `remanent` (A/m) in the field h0 (A/m),
 // given its demagnetising tensor n; or refused by 3.
 pub fn magnetisation(chi: f64, h0: Vector, remanent: Vector, n: Hessian) -> VectorAnswer
-    ensures { vectorAnswer result ≡ magnetisation chi h0 remanent n }
+    ensures { vector_answer result ≡ magnetisation chi h0 remanent n }
 {
     if magnetisation_within_limits(chi, h0, remanent, n) {
         return VectorAnswer::Value(magnetisation_of(chi, h0, remanent, n));
@@ -126,7 +126,7 @@ pub fn koenigsberger_of(remanent: Vector, chi: f64, h0: Vector) -> f64
 
 // The ratio of remanent to induced magnetisation; or refused by 3.
 pub fn koenigsberger(remanent: Vector, chi: f64, h0: Vector) -> NumberAnswer
-    ensures { numberAnswer result ≡ koenigsberger remanent chi h0 }
+    ensures { number_answer result ≡ koenigsberger remanent chi h0 }
 {
     if both_within_limits(remanent, h0) & doubles::within_limits(chi) {
         return NumberAnswer::Value(koenigsberger_of(remanent, chi, h0));

@@ -66,10 +66,10 @@ pub positive_of_num : (x : Float) → T (finite_unsigned x) → 0 < num x * 1 �
 positive_of_num nan p h = absurd p
 positive_of_num (inf s) p h = absurd p
 positive_of_num (fin true m e) p h = absurd p
-positive_of_num (fin false m e) p h = pos-m m (up e) h
+positive_of_num (fin false m e) p h = pos_m m (up e) h
   where
-    pos-m : (m u : ℕ) → 0 < m * u * 1 → T (ltb 0 m)
-    pos-m m u h = lt→ltb 0 m (first_pos m u (first_pos (m * u) 1 h))
+    pos_m : (m u : ℕ) → 0 < m * u * 1 → T (ltb 0 m)
+    pos_m m u h = lt→ltb 0 m (first_pos m u (first_pos (m * u) 1 h))
 
 pub positive_between : {lo hi x : Float} → Between lo hi x → T (positive lo) → T (positive x)
 positive_between {lo} {hi} {x} w p =

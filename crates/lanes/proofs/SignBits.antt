@@ -4,7 +4,7 @@ use Rattle.std.proofs.Common.{◌≡◌, ℕ, ◌+◌, ◌-◌, ◌*◌, ◌/◌
 use lib.Bits.{bit_and, bit_or, or_add_and, and_le_l, and_le_r, and_mask}
 use Rattle.roots.specs.NearestWhole.{Near, scaled_significand}
 use Rattle.roots.proofs.Scale.{n_range, scaled_of}
-use Rattle.roots.proofs.Trial.{mul-lt-pow, no_wrap_high, gh-lt, hh-lt, rest_lt, nearest}
+use Rattle.roots.proofs.Trial.{mul-lt-pow, no_wrap_high, gh_lt, hh_lt, rest_lt, nearest}
 
 pub or_clear : (a b : ℕ) → bit_or a b < 2 ^ 63 → (a < 2 ^ 63) × (b < 2 ^ 63)
 or_clear a b h = (omega (arith, or_add_and a b, and_le_r a b), omega (arith, or_add_and a b, and_le_l a b))
@@ -40,35 +40,35 @@ module _ (c : ℕ) (c_lt : c < 2 ^ 53) where
   abbrev h : ℕ
   h = bit_and c 0x1f_ffff
 
-  h-is : h ≡ c % 2 ^ 21
-  h-is = and_mask c 21
+  h_is : h ≡ c % 2 ^ 21
+  h_is = and_mask c 21
 
-  pub g-lt : g < 2 ^ 32
-  g-lt = omega arith
+  pub g_lt : g < 2 ^ 32
+  g_lt = omega arith
 
   pub h_le : h ≤ 2 ^ 26
-  h_le = let e = h-is in omega arith
+  h_le = let e = h_is in omega arith
 
-  pub gh-fits : g * h < 2 ^ 59
-  gh-fits = gh-lt 0 g h (omega arith) g-lt h_le
+  pub gh_fits : g * h < 2 ^ 59
+  gh_fits = gh_lt 0 g h (omega arith) g_lt h_le
 
-  pub hh-fits : h * h < 2 ^ 54
-  hh-fits = hh-lt 0 g h (omega arith) g-lt h_le
+  pub hh_fits : h * h < 2 ^ 54
+  hh_fits = hh_lt 0 g h (omega arith) g_lt h_le
 
-  pub rest-fits : g * h + h * h / 2 ^ 22 + 1 < 2 ^ 60
-  rest-fits = rest_lt 0 g h (omega arith) g-lt h_le
+  pub rest_fits : g * h + h * h / 2 ^ 22 + 1 < 2 ^ 60
+  rest_fits = rest_lt 0 g h (omega arith) g_lt h_le
 
   whole : g * 2 ^ 21 + h ≡ c
-  whole = let e = h-is in omega arith
+  whole = let e = h_is in omega arith
 
-  pub near-clear : (b f s t u : ℕ) → 2 ^ 52 ≤ c → (f + g * g) % 2 ^ 64 ≡ scaled_significand b → (s + (g * h + h * h / 2 ^ 22 + 1)) % 2 ^ 64 ≡ (f * 2 ^ 20 % 2 ^ 64 + g / 2) % 2 ^ 64
+  pub near_clear : (b f s t u : ℕ) → 2 ^ 52 ≤ c → (f + g * g) % 2 ^ 64 ≡ scaled_significand b → (s + (g * h + h * h / 2 ^ 22 + 1)) % 2 ^ 64 ≡ (f * 2 ^ 20 % 2 ^ 64 + g / 2) % 2 ^ 64
       → (t + s) % 2 ^ 64 ≡ 2 * (g / 2) - 1 → (u + f) % 2 ^ 64 ≡ 0xf_ffff_efff → bit_or (bit_or (bit_or s t) f) u < 2 ^ 63 → Near (scaled_significand b * 2 ^ 42) c
-  near-clear b f s t u c_ge ef es et eu clear =
+  near_clear b f s t u c_ge ef es et eu clear =
       let fl = f_lt g f s t u et eu clear in
       subst (λ (m : ℕ). Near (m * 2 ^ 42) c)
-      (no_wrap_high f (scaled_significand b) (g * g) ef fl (mul-lt-pow 32 32 g-lt g-lt) (n_range _ _ (scaled_significand b) (scaled_of b)).0)
+      (no_wrap_high f (scaled_significand b) (g * g) ef fl (mul-lt-pow 32 32 g_lt g_lt) (n_range _ _ (scaled_significand b) (scaled_of b)).0)
       (subst (λ (x : ℕ). Near ((f + g * g) * 2 ^ 42) x) whole
-      (nearest f g h fl g-lt h_le s (es ∙ fits f fl) (s_lt g f s t u et eu clear (omega arith))))
+      (nearest f g h fl g_lt h_le s (es ∙ fits f fl) (s_lt g f s t u et eu clear (omega arith))))
     where
       fits : (f : ℕ) → f < 0xf_ffff_f000 → (f * 2 ^ 20 % 2 ^ 64 + g / 2) % 2 ^ 64 ≡ f * 2 ^ 20 % 2 ^ 64 + g / 2
       fits f l = omega arith

@@ -56,17 +56,17 @@ one_tried {n} {k} {any} {t} {b₀} {b} {w} {v} s l h = record {
   rest = λ j m. get_or-set_other b k j t 0 (λ z. omega arith) ∙ s.rest j (omega arith);
   none = λ a j m.
       let o = or_clear any t a in
-      ⊎_elim (λ z. subst (λ (i : ℕ). get_or (set b k t) i 0 < 2 ^ 63) (sym z) (rw flag-here o.1)) (λ z. rw (get_or-set_other b k j t 0 z) (s.none o.0 j (omega arith))) (same? j k);
+      ⊎_elim (λ z. subst (λ (i : ℕ). get_or (set b k t) i 0 < 2 ^ 63) (sym z) (rw flag_here o.1)) (λ z. rw (get_or-set_other b k j t 0 z) (s.none o.0 j (omega arith))) (same? j k);
 }
   where
-    flag-here : get_or (set b k t) k 0 ≡ t
-    flag-here = get_or-set_same b k t 0 (let e = s.flags in omega arith)
+    flag_here : get_or (set b k t) k 0 ≡ t
+    flag_here = get_or-set_same b k t 0 (let e = s.flags in omega arith)
 
     lane_here : lane (set w k v) k ≡ v
     lane_here = get_or-set_same w k v nan (let e = s.size in omega arith)
 
     here : RootUnlessOpen (get_or b₀ k 0) (get_or (set b k t) k 0) (lane (set w k v) k)
-    here = rw (flag-here, lane_here, ← s.rest k (omega arith)) h
+    here = rw (flag_here, lane_here, ← s.rest k (omega arith)) h
 
 pub all_tried : {n k any : ℕ} {b₀ b : List ℕ} {w : List Float} → Tried n b₀ k b w any → n ≤ k → (x : List Float) → Patterns n x b₀ → Flagged n (λ (j : ℕ). Root (lane x j)) b w
 all_tried {n} {k} {any} {b₀} {b} {w} s l x p = record {

@@ -6,13 +6,13 @@ use Rattle.doubles.specs.Rounded.{◌⊕◌, ◌⊗◌, ◌⊘◌}
 use Rattle.doubles.specs.Constants.{1·0}
 use Rattle.doubles.specs.Magnitude.{abs}
 use Rattle.carlson.specs.Rc.{rc_value}
-use Rattle.carlson.specs.Arctangent.{atanBy, atan}
+use Rattle.carlson.specs.Arctangent.{atan_by, atan}
 use Rattle.lanes_rc.specs.LaneRounds.{rc_number}
 use Rattle.lanes_atan2.specs.AtanLanes.{reduced, angle, atan_from}
 use Rattle.lanes_atan2.proofs.AtanLaw.{atan-is}
 
-of_nan : atan_from nan (angle (reduced nan)) ≡ atanBy rc_value nan
-unfolding atan_from atanBy reduced is_nan abs le lt div mul sub neg of_bits
+of_nan : atan_from nan (angle (reduced nan)) ≡ atan_by rc_value nan
+unfolding atan_from atan_by reduced is_nan abs le lt div mul sub neg of_bits
 of_nan = refl
 
 pub atan-lane : (z : Float) → atan_from z (angle (reduced z)) ≡ atan z

@@ -16,7 +16,7 @@ use Rattle.doubles.proofs.Signs.{true→T, false→T, above_zero, is-zero, zero_
 use Rattle.doubles.proofs.FiniteUnsigned.{cross→le}
 use Rattle.doubles.proofs.Between.{positive_between}
 use Rattle.carlson.specs.Rc.{rc_value}
-use Rattle.carlson.specs.Arctangent.{with_sign, atanWithin, atanBy, atan2By, atan2}
+use Rattle.carlson.specs.Arctangent.{with_sign, atan_within, atan_by, atan2_by, atan2}
 use Rattle.special_laws.specs.ArgumentsOfRc.{y_within, reciprocal, in_atan}
 use Rattle.lanes_rc.specs.LaneRounds.{rc_number}
 use Rattle.lanes_atan2.specs.AtanLanes.{Proper, reduced, signed, angle, atan_from, atan2_from, atan2_lane}
@@ -63,16 +63,16 @@ beyond_not-zero z h = go (eq z 0·0) refl
 
 -- ---- atan
 
-angle-is : (w : Float) → T (le (abs w) 1·0) → angle w ≡ atanWithin rc_value w
-unfolding atanWithin
+angle-is : (w : Float) → T (le (abs w) 1·0) → angle w ≡ atan_within rc_value w
+unfolding atan_within
 angle-is w h = ap (λ (r : Float). w ⊗ r) (number-value 1·0 (1·0 ⊕ w ⊗ w) (positive_between (y_within w h) tt) (in_atan w h))
 
-pub atan-is : (z : Float) → is_nan z ≡ false → atan_from z (angle (reduced z)) ≡ atanBy rc_value z
-unfolding atan_from atanBy reduced
+pub atan-is : (z : Float) → is_nan z ≡ false → atan_from z (angle (reduced z)) ≡ atan_by rc_value z
+unfolding atan_from atan_by reduced
 atan-is z n = rw n (go (le (abs z) 1·0) refl)
   where
     go : (b : Bool) → le (abs z) 1·0 ≡ b
-        → cond b (angle (cond b z (1·0 ⊘ z))) (signed z π/2 ⊖ angle (cond b z (1·0 ⊘ z))) ≡ cond b (atanWithin rc_value z) (with_sign z π/2 ⊖ atanWithin rc_value (1·0 ⊘ z))
+        → cond b (angle (cond b z (1·0 ⊘ z))) (signed z π/2 ⊖ angle (cond b z (1·0 ⊘ z))) ≡ cond b (atan_within rc_value z) (with_sign z π/2 ⊖ atan_within rc_value (1·0 ⊘ z))
     go true h = angle-is z (true→T h)
     go false h = ap₂ (λ (u v : Float). u ⊖ v) (signed_is z π/2 n (beyond_not-zero z h)) (angle-is (1·0 ⊘ z) (reciprocal z (false→T n) (false→T h)))
 
@@ -97,7 +97,7 @@ unfolding ne
 itself z h = sym (ne_self z) ∙ ap not h
 
 pub atan2-lane : (s c : Float) → Proper s c → atan2_lane s c ≡ atan2 s c
-unfolding atan2 atan2By atan2_from
+unfolding atan2 atan2_by atan2_from
 atan2-lane s c p =
     let n = itself (s ⊘ c) p.z_is in
     let w = numbers s c n in

@@ -17,7 +17,7 @@ use Rattle.doubles.specs.Constants.{1·0, LN2}
 use Rattle.doubles.proofs.Signs.{true→T}
 use Rattle.doubles.proofs.Fields.{bits-lt, subnormal}
 use Rattle.doubles.proofs.FiniteUnsigned.{le→cross}
-use Rattle.carlson.specs.Logarithm.{fraction, midpoint, lnAt, lnBy, ln}
+use Rattle.carlson.specs.Logarithm.{fraction, midpoint, ln_at, ln_by, ln}
 use Rattle.special_laws.specs.ArgumentsOfRc.{in_ln}
 use Rattle.lanes_rc.specs.LaneRounds.{rc_number}
 use Rattle.lanes_rc.proofs.NumberIsValue.{number-value}
@@ -89,8 +89,8 @@ module _ (x : Float) (o : Normal x) where
 -- ---- ln
 
 -- R_C's number in ln is its value
-by_number : (x : Float) → T (positive x) → lnBy rc_number x ≡ ln x
-unfolding lnBy lnAt ln
+by_number : (x : Float) → T (positive x) → ln_by rc_number x ≡ ln x
+unfolding ln_by ln_at ln
 by_number nan p = absurd p
 by_number (inf s) p = absurd p
 by_number (fin true m e) p = absurd p
@@ -100,9 +100,9 @@ pub ln-lane : (x : Float) → Normal x → ln_lane x ≡ ln x
 unfolding pattern_of
 ln-lane x o =
     let b = to_bits binary64 x in
-    ap (λ (t : Bool). lnAt rc_number (scale_of (to_bits binary64 (cond t x largest))) (fraction_of (to_bits binary64 (cond t x largest)))) o.high
-    ∙ split-is b (pattern-above x o) (pattern-below x o) rc_number ∙ ap (lnBy rc_number) (of_bits-to_bits binary64 x o.fit) ∙ by_number x (is_positive x o)
+    ap (λ (t : Bool). ln_at rc_number (scale_of (to_bits binary64 (cond t x largest))) (fraction_of (to_bits binary64 (cond t x largest)))) o.high
+    ∙ split-is b (pattern-above x o) (pattern-below x o) rc_number ∙ ap (ln_by rc_number) (of_bits-to_bits binary64 x o.fit) ∙ by_number x (is_positive x o)
 
-pub ln_parts : {s t h c : Float} (k u : Float) → s ≡ k → t ≡ u → h ≡ midpoint u ⊗ midpoint u → c ≡ rc_number h t → s ⊗ LN2 ⊕ (t ⊖ 1·0) ⊗ c ≡ lnAt rc_number k u
-unfolding lnAt
+pub ln_parts : {s t h c : Float} (k u : Float) → s ≡ k → t ≡ u → h ≡ midpoint u ⊗ midpoint u → c ≡ rc_number h t → s ⊗ LN2 ⊕ (t ⊖ 1·0) ⊗ c ≡ ln_at rc_number k u
+unfolding ln_at
 ln_parts k u e f g i = rw (i, e, g, f)

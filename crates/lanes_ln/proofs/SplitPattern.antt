@@ -11,9 +11,9 @@ use lib.Pow.{pow-add, pow_pos, pow_mono}
 use lib.Ieee.{Float, inf, fin, binary64, minus, odd, of_int, of_bits}
 use lib.Ieee.Positive.{first_pos}
 use borrow.Author.Tests.{ne_eqb}
-use Rattle.doubles.proofs.Exponent.{minus-same, minus_add}
+use Rattle.doubles.proofs.Exponent.{minus_same, minus_add}
 use Rattle.doubles.proofs.Fields.{tz_div, odd_is, normal}
-use Rattle.carlson.specs.Logarithm.{binary_places, fraction, exponent, lnAt, lnBy}
+use Rattle.carlson.specs.Logarithm.{binary_places, fraction, exponent, ln_at, ln_by}
 use Rattle.special_laws.specs.ArgumentsOfRc.{places-low, places-high}
 use Rattle.lanes_ln.specs.LnLanes.{half, scale_of, fraction_of}
 
@@ -39,24 +39,24 @@ module _ (b : ℕ) (lo : 2 ^ 52 ≤ b) (hi : b < 2047 * 2 ^ 52) where
   abbrev p : ℕ
   p = binary_places m
 
-  q-pos : 0 < q
-  q-pos = omega arith
+  q_pos : 0 < q
+  q_pos = omega arith
 
-  m-pos : 0 < m
-  m-pos = first_pos m (2 ^ z) (omega (arith, tz_div 53 q, q-pos))
+  m_pos : 0 < m
+  m_pos = first_pos m (2 ^ z) (omega (arith, tz_div 53 q, q_pos))
 
   written : (k : ℕ) → odd 53 false q k 1074 ≡ fin false m (minus (k + z) 1074)
-  written k = odd_is 53 false q k 1074 q-pos
+  written k = odd_is 53 false q k 1074 q_pos
 
   -- 3/4 ≤ m / 2^p < 3/2, times 2^z
   low : 3 * 2 ^ (p + z) ≤ 4 * q
   low =
-      let h : 3 * 2 ^ p * 2 ^ z ≤ 4 * m * 2 ^ z = mul-le-mul_right (2 ^ z) (places-low m m-pos) in
+      let h : 3 * 2 ^ p * 2 ^ z ≤ 4 * m * 2 ^ z = mul-le-mul_right (2 ^ z) (places-low m m_pos) in
       omega (arith, h, pow-add 2 p z, tz_div 53 q)
 
   high : 2 * q < 3 * 2 ^ (p + z)
   high =
-      let h : (2 * m + 1) * 2 ^ z ≤ 3 * 2 ^ p * 2 ^ z = mul-le-mul_right (2 ^ z) (let g = places-high m m-pos in omega arith) in
+      let h : (2 * m + 1) * 2 ^ z ≤ 3 * 2 ^ p * 2 ^ z = mul-le-mul_right (2 ^ z) (let g = places-high m m_pos in omega arith) in
       omega (arith, h, pow_pos z, pow-add 2 p z, tz_div 53 q)
 
   more : (j : ℕ) → 3 * 2 ^ j ≤ 2 * q → j < p + z
@@ -78,17 +78,17 @@ module _ (b : ℕ) (lo : 2 ^ 52 ≤ b) (hi : b < 2047 * 2 ^ 52) where
   scale-is : scale_of b ≡ of_int binary64 (exponent m e)
   unfolding scale_of
   scale-is =
-      sym (ap (of_int binary64) (minus_add (b / 2 ^ 52 - 1 + z) 1074 p ∙ minus-same (b / 2 ^ 52 - 1 + z + p) 1074 (b / 2 ^ 52 + half b) 1023 (omega (arith, places))))
+      sym (ap (of_int binary64) (minus_add (b / 2 ^ 52 - 1 + z) 1074 p ∙ minus_same (b / 2 ^ 52 - 1 + z + p) 1074 (b / 2 ^ 52 + half b) 1023 (omega (arith, places))))
 
   fraction-is : fraction_of b ≡ fraction m
   unfolding fraction_of
   fraction-is =
       fraction_pattern (b % 2 ^ 52) (half b) (omega arith) (omega arith) ∙ written (1022 - half b)
-      ∙ ap (λ e. fin false m e) (sym (minus-same 0 p (1022 - half b + z) 1074 (omega (arith, places))))
+      ∙ ap (λ e. fin false m e) (sym (minus_same 0 p (1022 - half b + z) 1074 (omega (arith, places))))
 
-  pub split-is : (R_C : Float → Float → Float) → lnAt R_C (scale_of b) (fraction_of b) ≡ lnBy R_C (of_bits binary64 b)
-  unfolding lnBy
+  pub split-is : (R_C : Float → Float → Float) → ln_at R_C (scale_of b) (fraction_of b) ≡ ln_by R_C (of_bits binary64 b)
+  unfolding ln_by
   split-is R_C =
-      ap₂ (lnAt R_C) scale-is fraction-is
-      ∙ sym (ap (lnBy R_C) (normal b lo hi ∙ written (b / 2 ^ 52 - 1))
-      ∙ ap (λ (t : Bool). cond t (inf true) (lnAt R_C (of_int binary64 (exponent m e)) (fraction m))) (ne_eqb m 0 (λ h. omega (arith, m-pos))))
+      ap₂ (ln_at R_C) scale-is fraction-is
+      ∙ sym (ap (ln_by R_C) (normal b lo hi ∙ written (b / 2 ^ 52 - 1))
+      ∙ ap (λ (t : Bool). cond t (inf true) (ln_at R_C (of_int binary64 (exponent m e)) (fraction m))) (ne_eqb m 0 (λ h. omega (arith, m_pos))))

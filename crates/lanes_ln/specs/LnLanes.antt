@@ -3,7 +3,7 @@ use Rattle.std.specs.Prelude.{◌≡◌, true, cond, ℕ, ◌+◌, ◌-◌, ◌*
 use Rattle.std.specs.Float.{binary64}
 use Rattle.std.specs.Float.Ieee.{minus, of_int, of_bits, to_bits, fits, le}
 use Rattle.doubles.specs.Rounded.{◌⊗◌}
-use Rattle.carlson.specs.Logarithm.{midpoint, lnAt}
+use Rattle.carlson.specs.Logarithm.{midpoint, ln_at}
 use Rattle.lanes_rc.specs.LaneRounds.{rc_number}
 
 -- the smallest normal number above zero, 2⁻¹⁰²², and the largest
@@ -45,4 +45,4 @@ abbrev pub square_at : Float → Float
 square_at x = midpoint (fraction_at x) ⊗ midpoint (fraction_at x)
 
 abbrev pub ln_lane : Float → Float
-ln_lane x = lnAt rc_number (scale_at x) (fraction_at x)
+ln_lane x = ln_at rc_number (scale_at x) (fraction_at x)

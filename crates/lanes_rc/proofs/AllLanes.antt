@@ -83,8 +83,8 @@ module _ {n m : ℕ} {q x₀ y₀ a₀ f₀ x y a f : List Float} (h : Made n q 
   same_next : (k : ℕ) → k < n → Same (after_one q x y a f k) (after q x₀ y₀ a₀ f₀ (m + 1) k)
   same_next k l = rw (next k) at (same-round (lane q k) (start x y a f k) (after q x₀ y₀ a₀ f₀ m k) (same_start k l))
 
-  pub one-made : {x' y' a' f' : List Float} → m < max_rounds → States n (after_one q x y a f) x' y' a' f' → Made n q x₀ y₀ a₀ f₀ (m + 1) x' y' a' f'
-  one-made u t = record {
+  pub one_made : {x' y' a' f' : List Float} → m < max_rounds → States n (after_one q x y a f) x' y' a' f' → Made n q x₀ y₀ a₀ f₀ (m + 1) x' y' a' f'
+  one_made u t = record {
     within = omega arith;
     states = record {
       on_x = record { size = t.on_x.size; at = λ k l. t.on_x.at k l ∙ (same_next k l).x_is };
@@ -101,8 +101,8 @@ module _ {n m : ℕ} {q x₀ y₀ a₀ f₀ x y a f : List Float} (h : Made n q 
     on_f = record { size = h.states.on_f.size; at = λ k l. h.states.on_f.at k l ∙ ap (λ (d : RoundC). d.f) (e k l) };
   }
 
-  pub all-still : ((k : ℕ) → k < n → loop_test (lane q k) (lane a k) (lane f k) ≡ false) → Ended n (after_all q x₀ y₀ a₀ f₀) a f
-  all-still t =
+  pub all_still : ((k : ℕ) → k < n → loop_test (lane q k) (lane a k) (lane f k) ≡ false) → Ended n (after_all q x₀ y₀ a₀ f₀) a f
+  all_still t =
       ended max_rounds (λ k l.
       let s = same_start k l in
       let u = h.within in

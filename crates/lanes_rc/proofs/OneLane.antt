@@ -38,32 +38,32 @@ module _ {q : Float} {d : RoundC} {t : Bool} {x y a f l : Float} (s : Reads q d 
   tests : t ≡ test_c q d
   tests = s.t_is ∙ ap₂ (loop_test q) s.a_is s.f_is
 
-  abbrev λ-of : Float
-  λ-of = 2·0 ⊗ Root x ⊗ Root y ⊕ y
+  abbrev λ_of : Float
+  λ_of = 2·0 ⊗ Root x ⊗ Root y ⊕ y
 
-  sums : (w z : Float) → w ≡ z → (w ⊕ λ-of) ⊘ 4·0 ≡ quarter (z ⊕ λC d)
+  sums : (w z : Float) → w ≡ z → (w ⊕ λ_of) ⊘ 4·0 ≡ quarter (z ⊕ λC d)
   unfolding quarter
   sums w z e = rw (e, s.x_is, s.y_is)
 
   -- where a round is made, its λ is the definition's
-  made : (w : Float) → cond t ((w ⊕ l) ⊘ 4·0) w ≡ cond t ((w ⊕ λ-of) ⊘ 4·0) w
-  made w = ap (λ (u : Float). cond t ((w ⊕ u) ⊘ 4·0) w) s.l_is ∙ under t (λ u. (w ⊕ u) ⊘ 4·0) λ-of y w
+  made : (w : Float) → cond t ((w ⊕ l) ⊘ 4·0) w ≡ cond t ((w ⊕ λ_of) ⊘ 4·0) w
+  made w = ap (λ (u : Float). cond t ((w ⊕ u) ⊘ 4·0) w) s.l_is ∙ under t (λ u. (w ⊕ u) ⊘ 4·0) λ_of y w
 
-  pub round-x : {v : Float} → v ≡ cond t ((x ⊕ l) ⊘ 4·0) x → v ≡ (round_if q d).x
+  pub round_x : {v : Float} → v ≡ cond t ((x ⊕ l) ⊘ 4·0) x → v ≡ (round_if q d).x
   unfolding round_if duplicate_c
-  round-x e = e ∙ made x ∙ rw (sums x d.x s.x_is, s.x_is, tests) (part (test_c q d) (λ r. r.x) (duplicate_c d) d)
+  round_x e = e ∙ made x ∙ rw (sums x d.x s.x_is, s.x_is, tests) (part (test_c q d) (λ r. r.x) (duplicate_c d) d)
 
-  pub round-y : {v : Float} → v ≡ cond t ((y ⊕ l) ⊘ 4·0) y → v ≡ (round_if q d).y
+  pub round_y : {v : Float} → v ≡ cond t ((y ⊕ l) ⊘ 4·0) y → v ≡ (round_if q d).y
   unfolding round_if duplicate_c
-  round-y e = e ∙ made y ∙ rw (sums y d.y s.y_is, s.y_is, tests) (part (test_c q d) (λ r. r.y) (duplicate_c d) d)
+  round_y e = e ∙ made y ∙ rw (sums y d.y s.y_is, s.y_is, tests) (part (test_c q d) (λ r. r.y) (duplicate_c d) d)
 
-  pub round-a : {v : Float} → v ≡ cond t ((a ⊕ l) ⊘ 4·0) a → v ≡ (round_if q d).a
+  pub round_a : {v : Float} → v ≡ cond t ((a ⊕ l) ⊘ 4·0) a → v ≡ (round_if q d).a
   unfolding round_if duplicate_c
-  round-a e = e ∙ made a ∙ rw (sums a d.a s.a_is, s.a_is, tests) (part (test_c q d) (λ r. r.a) (duplicate_c d) d)
+  round_a e = e ∙ made a ∙ rw (sums a d.a s.a_is, s.a_is, tests) (part (test_c q d) (λ r. r.a) (duplicate_c d) d)
 
-  pub round-f : {v : Float} → v ≡ cond t (f ⊘ 4·0) f → v ≡ (round_if q d).f
+  pub round_f : {v : Float} → v ≡ cond t (f ⊘ 4·0) f → v ≡ (round_if q d).f
   unfolding round_if duplicate_c quarter
-  round-f e = e ∙ rw (s.f_is, tests) (part (test_c q d) (λ r. r.f) (duplicate_c d) d)
+  round_f e = e ∙ rw (s.f_is, tests) (part (test_c q d) (λ r. r.f) (duplicate_c d) d)
 
 from : Float → Float → Float → Float → Float → RoundC
 from q x y a f = rounds (test_c q) duplicate_c max_rounds (record { x = x; y = y; a = a; f = f; n = 0 })

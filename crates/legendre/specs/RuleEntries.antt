@@ -9,7 +9,7 @@ use Rattle.refusals.specs.Answer.{value, or_answer}
 use Rattle.refusals.specs.declared.Cause.{Cause}
 use Rattle.refusals.specs.declared.Cause.TheVariants.{None, Refused}
 use Rattle.refusals.specs.declared.Refusal.TheVariants.{OutsideDomain}
-use Rattle.legendre.specs.Answers.{ruleAnswer}
+use Rattle.legendre.specs.Answers.{answer_of_rule}
 use Rattle.legendre.specs.GaussLegendre.{max_order, node, weight, zeros, padded, rule_or, rule_cause, gauss_legendre, rule_of}
 
 -- ---- accepted or refused
@@ -23,11 +23,11 @@ unfolding gauss_legendre
 order-refused n (inl h) = simp (lt-leb 1 n h)
 order-refused n (inr h) = let p : 1 ≤ n = omega arith in simp (le-leb 1 n p, lt-leb n max_order h)
 
-rule_answer-or : (c : Cause) (n : ℕ) → ruleAnswer (rule_or c n) ≡ or_answer c (value (rule_or None n))
+rule_answer-or : (c : Cause) (n : ℕ) → answer_of_rule (rule_or c n) ≡ or_answer c (value (rule_or None n))
 rule_answer-or None n = refl
 rule_answer-or (Refused r) n = refl
 
-pub rule_answer : (n : ℕ) → ruleAnswer (gauss_legendre n) ≡ rule_of n
+pub rule_answer : (n : ℕ) → answer_of_rule (gauss_legendre n) ≡ rule_of n
 unfolding gauss_legendre rule_of
 rule_answer n = rule_answer-or (rule_cause n) n
 

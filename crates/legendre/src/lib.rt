@@ -5,7 +5,7 @@ mod table;
 
 ghost use Rattle.std.specs.Prelude.{◌≡◌, ◌+◌, ◌≤◌, length};
 ghost use Rattle.legendre.specs.Table.{table};
-ghost use Rattle.legendre.specs.Answers.{ruleAnswer};
+ghost use Rattle.legendre.specs.Answers.{answer_of_rule};
 ghost use Rattle.legendre.specs.GaussLegendre.{max_order, entry, padded, rule_or, gauss_legendre, rule_of};
 
 use refusals::{Cause, Refusal};
@@ -54,7 +54,7 @@ fn refused() -> Rule
 // The rule of an order. Outside 1 to 16 it is refused by 14.
 pub fn gauss_legendre(order: u32) -> Rule
     ensures value { result ≡ gauss_legendre order }
-    ensures result_value { ruleAnswer result ≡ rule_of order }
+    ensures result_value { answer_of_rule result ≡ rule_of order }
 {
     let n = order as usize;
     if n < 1 {

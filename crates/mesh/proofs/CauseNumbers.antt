@@ -32,14 +32,14 @@ module _ (P : Refusal → Type 0) where
   only-unless true s h r e = absurd (let z : ◌≡◌ {A = ℕ} 0 1 = cc in omega arith)
   only-unless false s h r e = subst P (let z : s ≡ r = cc in z) h
 
-  pub only-else : (c d : Cause) → Only P c → Only P d → Only P (or_else c d)
-  only-else None d p q = q
-  only-else (Refused x) d p q = p
+  pub only_else : (c d : Cause) → Only P c → Only P d → Only P (or_else c d)
+  only_else None d p q = q
+  only_else (Refused x) d p q = p
 
   pub only-first : (n : ℕ) (t : ℕ → Bool) (s : ℕ → Refusal) → ((i : ℕ) → P (s i)) → Only P (first_of n (λ i. unless (t i) (s i)))
   unfolding first_of
   only-first zero t s h r e = absurd (let z : ◌≡◌ {A = ℕ} 0 1 = cc in omega arith)
-  only-first (suc n) t s h r e = only-else (first_of n (λ i. unless (t i) (s i))) (unless (t n) (s n)) (only-first n t s h) (only-unless (t n) (s n) (h n)) r e
+  only-first (suc n) t s h r e = only_else (first_of n (λ i. unless (t i) (s i))) (unless (t n) (s n)) (only-first n t s h) (only-unless (t n) (s n) (h n)) r e
 
   -- the first cause never refuses with r: it does not hold, and the second decides
   pub skip : (c d : Cause) (r : Refusal) → Only P c → (P r → ⊥) → or_else c d ≡ Refused r → (c ≡ None) × (d ≡ Refused r)
@@ -64,29 +64,29 @@ module _ (v : List Float) (f : List ℕ) where
   unfolding too_many
   only-many = only-unless (NumberWithin 2 2) (leb (vertex_count v) max_vertices && leb (face_count f) max_faces) TooMany (omega arith)
 
-  pub only-short : (n : ℕ) → Only (NumberWithin 12 12) (too_short f n)
+  pub only_short : (n : ℕ) → Only (NumberWithin 12 12) (too_short f n)
   unfolding too_short
-  only-short n = only-unless (NumberWithin 12 12) (leb (length f) n) TooShort (omega arith)
+  only_short n = only-unless (NumberWithin 12 12) (leb (length f) n) TooShort (omega arith)
 
-  pub only-limits : Only (NumberWithin 3 3) (out_of_limits v)
+  pub only_limits : Only (NumberWithin 3 3) (out_of_limits v)
   unfolding out_of_limits
-  only-limits = only-first (NumberWithin 3 3) (length v) (in_limits v) (λ i. OutOfLimits) (λ i. omega arith)
+  only_limits = only-first (NumberWithin 3 3) (length v) (in_limits v) (λ i. OutOfLimits) (λ i. omega arith)
 
   pub only-vertex : Only (NumberWithin 4 4) (no_such_vertex (vertex_count v) f)
   unfolding no_such_vertex
   only-vertex = only-first (NumberWithin 4 4) (length f) (names_vertex (vertex_count v) f) (λ i. NoSuchVertex (i / 3)) (λ i. omega arith)
 
-  pub only-flipped : (o : List ℕ) → Only (NumberWithin 5 5) (flipped_edge f o)
+  pub only_flipped : (o : List ℕ) → Only (NumberWithin 5 5) (flipped_edge f o)
   unfolding flipped_edge
-  only-flipped o = only-first (NumberWithin 5 5) (length f) (occurs_once f o) (flipped_at f o) (λ i. omega arith)
+  only_flipped o = only-first (NumberWithin 5 5) (length f) (occurs_once f o) (flipped_at f o) (λ i. omega arith)
 
-  pub only-open : (o : List ℕ) → Only (NumberWithin 6 6) (open_edge f o)
+  pub only_open : (o : List ℕ) → Only (NumberWithin 6 6) (open_edge f o)
   unfolding open_edge
-  only-open o = only-first (NumberWithin 6 6) (length f) (reverse_occurs f o) (open_at f o) (λ i. omega arith)
+  only_open o = only-first (NumberWithin 6 6) (length f) (reverse_occurs f o) (open_at f o) (λ i. omega arith)
 
-  pub only-degenerate : Only (NumberWithin 7 7) (degenerate_face v f)
+  pub only_degenerate : Only (NumberWithin 7 7) (degenerate_face v f)
   unfolding degenerate_face
-  only-degenerate = only-first (NumberWithin 7 7) (face_count f) (has_normal v f) (λ k. Degenerate k) (λ i. omega arith)
+  only_degenerate = only-first (NumberWithin 7 7) (face_count f) (has_normal v f) (λ k. Degenerate k) (λ i. omega arith)
 
   pub only-inverted : Only (NumberWithin 8 8) (inverted v f)
   unfolding inverted
@@ -95,17 +95,17 @@ module _ (v : List Float) (f : List ℕ) where
   pub only-faces : Only (NumberWithin 7 8) (faces_cause v f)
   unfolding faces_cause
   only-faces =
-      only-else (NumberWithin 7 8) (degenerate_face v f) (inverted v f) (more_numbers 7 7 7 8 (degenerate_face v f) (omega arith) (omega arith) only-degenerate)
+      only_else (NumberWithin 7 8) (degenerate_face v f) (inverted v f) (more_numbers 7 7 7 8 (degenerate_face v f) (omega arith) (omega arith) only_degenerate)
       (more_numbers 8 8 7 8 (inverted v f) (omega arith) (omega arith) only-inverted)
 
   -- 6 to 8, the causes after 5
-  pub only-after-flipped : (o : List ℕ) → Only (NumberWithin 6 8) (or_else (open_edge f o) (faces_cause v f))
-  only-after-flipped o =
-      only-else (NumberWithin 6 8) (open_edge f o) (faces_cause v f) (more_numbers 6 6 6 8 (open_edge f o) (omega arith) (omega arith) (only-open o))
+  pub only-after_flipped : (o : List ℕ) → Only (NumberWithin 6 8) (or_else (open_edge f o) (faces_cause v f))
+  only-after_flipped o =
+      only_else (NumberWithin 6 8) (open_edge f o) (faces_cause v f) (more_numbers 6 6 6 8 (open_edge f o) (omega arith) (omega arith) (only_open o))
       (more_numbers 7 8 6 8 (faces_cause v f) (omega arith) (omega arith) only-faces)
 
   pub only-order : (o : List ℕ) → Only (NumberWithin 5 8) (order_cause v f o)
   unfolding order_cause
   only-order o =
-      only-else (NumberWithin 5 8) (flipped_edge f o) (or_else (open_edge f o) (faces_cause v f)) (more_numbers 5 5 5 8 (flipped_edge f o) (omega arith) (omega arith) (only-flipped o))
-      (more_numbers 6 8 5 8 (or_else (open_edge f o) (faces_cause v f)) (omega arith) (omega arith) (only-after-flipped o))
+      only_else (NumberWithin 5 8) (flipped_edge f o) (or_else (open_edge f o) (faces_cause v f)) (more_numbers 5 5 5 8 (flipped_edge f o) (omega arith) (omega arith) (only_flipped o))
+      (more_numbers 6 8 5 8 (or_else (open_edge f o) (faces_cause v f)) (omega arith) (omega arith) (only-after_flipped o))

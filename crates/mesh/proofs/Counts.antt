@@ -15,26 +15,26 @@ use Rattle.mesh.specs.Check.{malformed, too_many, too_short, count_cause}
 use Rattle.mesh.specs.CauseLaws.{malformed-none, many-none}
 
 module _ (v : List Float) (f : List ℕ) (n : ℕ) where
-  refuse-malformed : (eqb (length v % 3) 0 && eqb (length f % 3) 0) ≡ false → Refused Malformed ≡ count_cause v f n
+  refuse_malformed : (eqb (length v % 3) 0 && eqb (length f % 3) 0) ≡ false → Refused Malformed ≡ count_cause v f n
   unfolding count_cause malformed
-  refuse-malformed e = rw e
+  refuse_malformed e = rw e
 
-  pub refuse-vertices : (length v % 3 ≡ 0 → ⊥) → Refused Malformed ≡ count_cause v f n
-  refuse-vertices u = refuse-malformed (ap (λ (b : Bool). b && eqb (length f % 3) 0) (ne_eqb (length v % 3) 0 u))
+  pub refuse_vertices : (length v % 3 ≡ 0 → ⊥) → Refused Malformed ≡ count_cause v f n
+  refuse_vertices u = refuse_malformed (ap (λ (b : Bool). b && eqb (length f % 3) 0) (ne_eqb (length v % 3) 0 u))
 
-  pub refuse-triples : length v % 3 ≡ 0 → (length f % 3 ≡ 0 → ⊥) → Refused Malformed ≡ count_cause v f n
-  refuse-triples e u = refuse-malformed (ap₂ (λ (a b : Bool). a && b) (eq-eqb (length v % 3) 0 e) (ne_eqb (length f % 3) 0 u))
+  pub refuse_triples : length v % 3 ≡ 0 → (length f % 3 ≡ 0 → ⊥) → Refused Malformed ≡ count_cause v f n
+  refuse_triples e u = refuse_malformed (ap₂ (λ (a b : Bool). a && b) (eq-eqb (length v % 3) 0 e) (ne_eqb (length f % 3) 0 u))
 
   module _ (p : length v % 3 ≡ 0) (q : length f % 3 ≡ 0) where
-    refuse-many : (leb (vertex_count v) max_vertices && leb (face_count f) max_faces) ≡ false → Refused TooMany ≡ count_cause v f n
+    refuse_many : (leb (vertex_count v) max_vertices && leb (face_count f) max_faces) ≡ false → Refused TooMany ≡ count_cause v f n
     unfolding count_cause too_many
-    refuse-many e = rw (malformed-none v f p q, e)
+    refuse_many e = rw (malformed-none v f p q, e)
 
     pub many-vertices : max_vertices < vertex_count v → Refused TooMany ≡ count_cause v f n
-    many-vertices l = refuse-many (ap (λ (b : Bool). b && leb (face_count f) max_faces) (lt-leb (vertex_count v) max_vertices l))
+    many-vertices l = refuse_many (ap (λ (b : Bool). b && leb (face_count f) max_faces) (lt-leb (vertex_count v) max_vertices l))
 
     pub many-faces : vertex_count v ≤ max_vertices → max_faces < face_count f → Refused TooMany ≡ count_cause v f n
-    many-faces m l = refuse-many (ap₂ (λ (a b : Bool). a && b) (le-leb (vertex_count v) max_vertices m) (lt-leb (face_count f) max_faces l))
+    many-faces m l = refuse_many (ap₂ (λ (a b : Bool). a && b) (le-leb (vertex_count v) max_vertices m) (lt-leb (face_count f) max_faces l))
 
     pub too_short_lem : vertex_count v ≤ max_vertices → face_count f ≤ max_faces → n < length f → Refused TooShort ≡ count_cause v f n
     unfolding count_cause too_short

@@ -12,7 +12,7 @@ use Rattle.refusals.specs.declared.Cause.TheVariants.{None, Refused}
 use Rattle.refusals.specs.Causes.{unless, first_of}
 use Rattle.mesh.specs.Surface.{face_count, normal, is_zero, add_face_volume, volume}
 use Rattle.mesh.specs.Check.{has_normal, degenerate_face}
-use Rattle.mesh.proofs.Scans.{scan-start, scan-more, scan-stop, scan-end}
+use Rattle.mesh.proofs.Scans.{scan_start, scan_more, scan_stop, scan_end}
 
 module _ (v : List Float) (f : List ℕ) where
   -- none of the first k faces is degenerate
@@ -20,18 +20,18 @@ module _ (v : List Float) (f : List ℕ) where
   Normals k = first_of k (λ j. unless (has_normal v f j) (Degenerate j)) ≡ None
 
   pub normals-start : Normals 0
-  normals-start = scan-start (face_count f) (has_normal v f) (λ k. Degenerate k)
+  normals-start = scan_start (face_count f) (has_normal v f) (λ k. Degenerate k)
 
   pub normals-more : (k : ℕ) → Normals k → is_zero (normal v f k) ≡ false → Normals (k + 1)
-  normals-more k h e = scan-more (face_count f) (has_normal v f) (λ k. Degenerate k) k h (ap not e)
+  normals-more k h e = scan_more (face_count f) (has_normal v f) (λ k. Degenerate k) k h (ap not e)
 
-  pub normals-stop : (k : ℕ) → k < face_count f → Normals k → is_zero (normal v f k) ≡ true → Refused (Degenerate k) ≡ degenerate_face v f
+  pub normals_stop : (k : ℕ) → k < face_count f → Normals k → is_zero (normal v f k) ≡ true → Refused (Degenerate k) ≡ degenerate_face v f
   unfolding degenerate_face
-  normals-stop k l h e = scan-stop (face_count f) (has_normal v f) (λ k. Degenerate k) k l h (ap not e)
+  normals_stop k l h e = scan_stop (face_count f) (has_normal v f) (λ k. Degenerate k) k l h (ap not e)
 
   pub normals-end : (k : ℕ) → k ≤ face_count f → face_count f ≤ k → Normals k → None ≡ degenerate_face v f
   unfolding degenerate_face
-  normals-end k a b h = scan-end (face_count f) (has_normal v f) (λ k. Degenerate k) k a b h
+  normals-end k a b h = scan_end (face_count f) (has_normal v f) (λ k. Degenerate k) k a b h
 
   pub sum-end : (s : Float) (k : ℕ) → k ≤ face_count f → face_count f ≤ k → s ≡ Fold k (add_face_volume v f) 0·0 → s ≡ volume v f
   unfolding volume

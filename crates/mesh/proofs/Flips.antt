@@ -15,18 +15,18 @@ use Rattle.refusals.proofs.Causes.{from_each, passes}
 use Rattle.lists.proofs.Numbers.{same?, below?}
 use Rattle.mesh_orders.specs.Edges.{from, to, has, occurrences, edge, Faces}
 use Rattle.mesh_orders.specs.Order.{order_list}
-use Rattle.mesh_orders.specs.EdgeLaws.{edge-self, has-own, number-has, small-to, occurs-two, edge-one}
+use Rattle.mesh_orders.specs.EdgeLaws.{edge_self, has-own, number-has, small-to, occurs-two, edge-one}
 use Rattle.mesh.specs.Check.{occurs_once, flipped_at}
-use Rattle.mesh_orders.specs.OrderLaws.{order-length, order_below, place, places-apart, edge-le}
+use Rattle.mesh_orders.specs.OrderLaws.{order-length, order_below, place, places_apart, edge-le}
 
 module _ (f : List ℕ) (h : Faces f) where
   -- the edge at place k of the order list
   abbrev edge_at : ℕ → ℕ
   edge_at k = edge f (get_or (order_list f) k 0)
 
-  pub differs-once : (k : ℕ) → k < length f → ((j : ℕ) → j ≤ k → j + 1 < length f → edge_at j ≡ edge_at (j + 1) → ⊥)
+  pub differs_once : (k : ℕ) → k < length f → ((j : ℕ) → j ≤ k → j + 1 < length f → edge_at j ≡ edge_at (j + 1) → ⊥)
       → occurrences f (from f (get_or (order_list f) k 0)) (to f (get_or (order_list f) k 0)) ≡ 1
-  differs-once k kl d = edge-one f h (get_or (order_list f) k 0) (order_below f k (omega (arith, order-length f))) alone
+  differs_once k kl d = edge-one f h (get_or (order_list f) k 0) (order_below f k (omega (arith, order-length f))) alone
     where
       alone : (w : ℕ) → w < length f → edge f w ≡ edge_at k → w ≡ get_or (order_list f) k 0
       alone w wl e =
@@ -40,10 +40,10 @@ module _ (f : List ℕ) (h : Faces f) where
           (same? p.at k))
           (below? p.at k)
 
-  pub same-twice : (k : ℕ) → k + 1 < length f → edge_at k ≡ edge_at (k + 1) → 1 < occurrences f (from f (get_or (order_list f) k 0)) (to f (get_or (order_list f) k 0))
-  same-twice k kl e =
+  pub same_twice : (k : ℕ) → k + 1 < length f → edge_at k ≡ edge_at (k + 1) → 1 < occurrences f (from f (get_or (order_list f) k 0)) (to f (get_or (order_list f) k 0))
+  same_twice k kl e =
       ⊎_elim (λ l. occurs-two f (from f u) (to f u) u w l wl own other)
-      (λ l. occurs-two f (from f u) (to f u) w u (omega (arith, places-apart f k (k + 1) (omega arith) kl)) ul other own)
+      (λ l. occurs-two f (from f u) (to f u) w u (omega (arith, places_apart f k (k + 1) (omega arith) kl)) ul other own)
       (below? u w)
     where
       u : ℕ
@@ -64,13 +64,13 @@ module _ (f : List ℕ) (h : Faces f) where
       other : has f (from f (get_or (order_list f) k 0)) (to f (get_or (order_list f) k 0)) (get_or (order_list f) (k + 1) 0) ≡ true
       other =
           number-has f h (get_or (order_list f) (k + 1) 0) (from f (get_or (order_list f) k 0)) (to f (get_or (order_list f) k 0)) (omega (arith, small-to f h (get_or (order_list f) k 0)))
-          (sym e ∙ edge-self f (get_or (order_list f) k 0))
+          (sym e ∙ edge_self f (get_or (order_list f) k 0))
 
   -- places before i differ from the next: none of the first n places is flipped, where n is at most i or i is the last place
-  pub differ-none : (i n : ℕ) → n ≤ length f → (n ≤ i) ⊎ (length f ≤ i + 1) → ((j : ℕ) → j < i → edge_at j ≡ edge_at (j + 1) → ⊥)
+  pub differ_none : (i n : ℕ) → n ≤ length f → (n ≤ i) ⊎ (length f ≤ i + 1) → ((j : ℕ) → j < i → edge_at j ≡ edge_at (j + 1) → ⊥)
       → first_of n (λ i. unless (occurs_once f (order_list f) i) (flipped_at f (order_list f) i)) ≡ None
-  differ-none i n nl far d =
+  differ_none i n nl far d =
       from_each n (λ k. unless (occurs_once f (order_list f) k) (flipped_at f (order_list f) k)) (λ k kn.
       passes (occurs_once f (order_list f) k) (flipped_at f (order_list f) k)
       (le-leb (occurrences f (from f (get_or (order_list f) k 0)) (to f (get_or (order_list f) k 0))) 1
-      (le_of_eq (differs-once k (omega arith) (λ j jk jl. d j (⊎_elim (λ a. omega arith) (λ a. omega arith) far))))))
+      (le_of_eq (differs_once k (omega arith) (λ j jk jl. d j (⊎_elim (λ a. omega arith) (λ a. omega arith) far))))))

@@ -12,22 +12,22 @@ use Rattle.refusals.proofs.Causes.{more, stop, passes, refuses}
 use Rattle.lists.proofs.Numbers.{both}
 
 module _ (n : ℕ) (t : ℕ → Bool) (r : ℕ → Refusal) where
-  pub scan-start : first_of 0 (λ i. unless (t i) (r i)) ≡ None
+  pub scan_start : first_of 0 (λ i. unless (t i) (r i)) ≡ None
   unfolding first_of
-  scan-start = refl
+  scan_start = refl
 
-  pub scan-more : (i : ℕ) → first_of i (λ j. unless (t j) (r j)) ≡ None → t i ≡ true → first_of (i + 1) (λ j. unless (t j) (r j)) ≡ None
-  scan-more i h e = more i (λ j. unless (t j) (r j)) h (passes (t i) (r i) e)
+  pub scan_more : (i : ℕ) → first_of i (λ j. unless (t j) (r j)) ≡ None → t i ≡ true → first_of (i + 1) (λ j. unless (t j) (r j)) ≡ None
+  scan_more i h e = more i (λ j. unless (t j) (r j)) h (passes (t i) (r i) e)
 
-  pub scan-stop : (i : ℕ) → i < n → first_of i (λ j. unless (t j) (r j)) ≡ None → t i ≡ false → Refused (r i) ≡ first_of n (λ j. unless (t j) (r j))
-  scan-stop i l h e = sym (stop n i (λ j. unless (t j) (r j)) (r i) l h (refuses (t i) (r i) e))
+  pub scan_stop : (i : ℕ) → i < n → first_of i (λ j. unless (t j) (r j)) ≡ None → t i ≡ false → Refused (r i) ≡ first_of n (λ j. unless (t j) (r j))
+  scan_stop i l h e = sym (stop n i (λ j. unless (t j) (r j)) (r i) l h (refuses (t i) (r i) e))
 
-  pub scan-end : (i : ℕ) → i ≤ n → n ≤ i → first_of i (λ j. unless (t j) (r j)) ≡ None → None ≡ first_of n (λ j. unless (t j) (r j))
-  scan-end i a b h = sym (subst (λ (m : ℕ). first_of m (λ j. unless (t j) (r j)) ≡ None) (let e : i ≡ n = omega arith in e) h)
+  pub scan_end : (i : ℕ) → i ≤ n → n ≤ i → first_of i (λ j. unless (t j) (r j)) ≡ None → None ≡ first_of n (λ j. unless (t j) (r j))
+  scan_end i a b h = sym (subst (λ (m : ℕ). first_of m (λ j. unless (t j) (r j)) ≡ None) (let e : i ≡ n = omega arith in e) h)
 
   -- all tests so far hold, if a says so
   pub all_more : (i : ℕ) (a : Bool) → (a ≡ true → first_of i (λ j. unless (t j) (r j)) ≡ None) → (a && t i) ≡ true → first_of (i + 1) (λ j. unless (t j) (r j)) ≡ None
-  all_more i a h e = let w = both a (t i) e in scan-more i (h w.0) w.1
+  all_more i a h e = let w = both a (t i) e in scan_more i (h w.0) w.1
 
 -- with one refusal a says it both ways
 unless_both : (a b : Bool) (r : Refusal) → unless (a && b) r ≡ or_else (unless a r) (unless b r)

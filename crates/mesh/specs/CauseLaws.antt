@@ -82,9 +82,9 @@ module _ (v : List Float) (f : List ℕ) where
   many-none p q = ap₂ (λ (a b : Bool). unless (a && b) TooMany) (le-leb (vertex_count v) max_vertices p) (le-leb (face_count f) max_faces q)
 
   -- 12
-  pub none-short : (n : ℕ) → too_short f n ≡ None → length f ≤ n
+  pub none_short : (n : ℕ) → too_short f n ≡ None → length f ≤ n
   unfolding too_short
-  none-short n e = leb-true (length f) n (holds (leb (length f) n) TooShort e)
+  none_short n e = leb-true (length f) n (holds (leb (length f) n) TooShort e)
 
   pub short_none : (n : ℕ) → length f ≤ n → too_short f n ≡ None
   unfolding too_short
@@ -98,20 +98,20 @@ module _ (v : List Float) (f : List ℕ) where
       let b = causes.both (too_many v f) (too_short f n) a.1 in
       let p = none-malformed a.0 in
       let q = none-many b.0 in
-      record { coordinates = p.0; corners = p.1; vertices = q.0; faces = q.1; room = none-short n b.1 }
+      record { coordinates = p.0; corners = p.1; vertices = q.0; faces = q.1; room = none_short n b.1 }
 
   pub count_none : (n : ℕ) → Counted v f n → count_cause v f n ≡ None
   unfolding count_cause
   count_none n h = rw (malformed-none h.coordinates h.corners, many-none h.vertices h.faces, short_none n h.room)
 
   -- 3
-  pub none-limits : out_of_limits v ≡ None → (i : ℕ) → i < length v → in_limits v i ≡ true
+  pub none_limits : out_of_limits v ≡ None → (i : ℕ) → i < length v → in_limits v i ≡ true
   unfolding out_of_limits
-  none-limits e = none_each (length v) (in_limits v) (λ i. OutOfLimits) e
+  none_limits e = none_each (length v) (in_limits v) (λ i. OutOfLimits) e
 
-  pub limits-none : ((i : ℕ) → i < length v → in_limits v i ≡ true) → out_of_limits v ≡ None
+  pub limits_none : ((i : ℕ) → i < length v → in_limits v i ≡ true) → out_of_limits v ≡ None
   unfolding out_of_limits
-  limits-none h = each_none (length v) (in_limits v) (λ i. OutOfLimits) h
+  limits_none h = each_none (length v) (in_limits v) (λ i. OutOfLimits) h
 
   -- 4
   pub none-vertex : no_such_vertex (vertex_count v) f ≡ None → Below f (vertex_count v)
@@ -123,13 +123,13 @@ module _ (v : List Float) (f : List ℕ) where
   vertex-none h = each_none (length f) (names_vertex (vertex_count v) f) (λ j. NoSuchVertex (j / 3)) (λ i l. lt-ltb (get_or f i 0) (vertex_count v) (h i l))
 
   -- 7
-  pub none-degenerate : degenerate_face v f ≡ None → (k : ℕ) → k < face_count f → is_zero (normal v f k) ≡ false
+  pub none_degenerate : degenerate_face v f ≡ None → (k : ℕ) → k < face_count f → is_zero (normal v f k) ≡ false
   unfolding degenerate_face
-  none-degenerate e k l = not-true (is_zero (normal v f k)) (none_each (face_count f) (has_normal v f) (λ j. Degenerate j) e k l)
+  none_degenerate e k l = not-true (is_zero (normal v f k)) (none_each (face_count f) (has_normal v f) (λ j. Degenerate j) e k l)
 
-  pub degenerate-none : ((k : ℕ) → k < face_count f → is_zero (normal v f k) ≡ false) → degenerate_face v f ≡ None
+  pub degenerate_none : ((k : ℕ) → k < face_count f → is_zero (normal v f k) ≡ false) → degenerate_face v f ≡ None
   unfolding degenerate_face
-  degenerate-none h = each_none (face_count f) (has_normal v f) (λ j. Degenerate j) (λ k l. ap not (h k l))
+  degenerate_none h = each_none (face_count f) (has_normal v f) (λ j. Degenerate j) (λ k l. ap not (h k l))
 
   -- 8
   pub none-inverted : inverted v f ≡ None → lt 0·0 (volume v f) ≡ true

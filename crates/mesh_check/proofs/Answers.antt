@@ -13,7 +13,7 @@ use Rattle.refusals.specs.Causes.{or_else}
 use Rattle.refusals.specs.Answer.{value, refused, or_answer}
 use Rattle.mesh.specs.Surface.{volume}
 use Rattle.mesh.specs.Check.{out_of_limits, count_cause, surface_cause, mesh_cause, solid_of, check_mesh, answer_of, leaves_work, work_after}
-use Rattle.mesh_check.proofs.Work.{early-count, early-number, work-early}
+use Rattle.mesh_check.proofs.Work.{early_count, early_number, work_early}
 
 pub solid-answer : (c : Cause) (x : Float) → answer_of (solid_of c x) ≡ or_answer c (value x)
 solid-answer None x = refl
@@ -26,11 +26,11 @@ module _ (v : List Float) (f w : List ℕ) where
 
   early : (r : Refusal) → mesh_cause v f (length w) ≡ Refused r → leaves_work r ≡ true → ReturnsEarly r
   unfolding check_mesh
-  early r e l = (sym (ap (λ (c : Cause). or_answer c (value (volume v f))) e), sym (ap (λ (c : Cause). work_after c f w) e ∙ work-early f w r l))
+  early r e l = (sym (ap (λ (c : Cause). or_answer c (value (volume v f))) e), sym (ap (λ (c : Cause). work_after c f w) e ∙ work_early f w r l))
 
   pub not-counted : (r : Refusal) → count_cause v f (length w) ≡ Refused r → ReturnsEarly r
   unfolding mesh_cause
-  not-counted r e = early r (ap (λ (c : Cause). or_else c (or_else (out_of_limits v) (surface_cause v f))) e) (early-count v f (length w) r e)
+  not-counted r e = early r (ap (λ (c : Cause). or_else c (or_else (out_of_limits v) (surface_cause v f))) e) (early_count v f (length w) r e)
 
   module _ (h : count_cause v f (length w) ≡ None) where
     counted : mesh_cause v f (length w) ≡ or_else (out_of_limits v) (surface_cause v f)
@@ -38,7 +38,7 @@ module _ (v : List Float) (f w : List ℕ) where
     counted = ap (λ (c : Cause). or_else c (or_else (out_of_limits v) (surface_cause v f))) h
 
     pub out-of-limits : (r : Refusal) → out_of_limits v ≡ Refused r → ReturnsEarly r
-    out-of-limits r e = early r (counted ∙ ap (λ (c : Cause). or_else c (surface_cause v f)) e) (early-number v f r e)
+    out-of-limits r e = early r (counted ∙ ap (λ (c : Cause). or_else c (surface_cause v f)) e) (early_number v f r e)
 
     pub go_on : out_of_limits v ≡ None → mesh_cause v f (length w) ≡ surface_cause v f
     go_on e = counted ∙ ap (λ (c : Cause). or_else c (surface_cause v f)) e

@@ -19,7 +19,7 @@ use Rattle.mesh_orders.specs.OrderLaws.{order-length, order_below, place}
 use Rattle.mesh_orders.specs.Mates.{mate, mates}
 use Rattle.sheet_layout.specs.LittleEndian.{bytes, pack}
 use Rattle.sheet_layout.proofs.Lists.{pack-length}
-use Rattle.sheet_layout.proofs.Stores.{sets-all}
+use Rattle.sheet_layout.proofs.Stores.{sets_all}
 use Rattle.mesh_check.specs.CheckedMates.{HoldsMates, MatesRoom, mates_after}
 use Rattle.mesh_check.proofs.Scatter.{Agrees, put-here, put_one, all-put}
 
@@ -87,7 +87,7 @@ module _ (order partners : List ℕ) where
         each : length out₀ ≡ 4 * length order → out ≡ sets out₀ 0 (pack 4 (mates f))
         each z =
             all-put (mates f) out (omega (arith, mates-size f, long)) at
-            ∙ sym (sets-all out₀ (pack 4 (mates f)) (omega (arith, pack-length 4 (mates f), mates-size f, long)))
+            ∙ sym (sets_all out₀ (pack 4 (mates f)) (omega (arith, pack-length 4 (mates f), mates-size f, long)))
           where
             at : (u b : ℕ) → u < length (mates f) → b < 4 → Agrees (mates f) out (4 * u + b)
             at u b ul bl =

@@ -19,8 +19,8 @@ use Rattle.mesh_orders.specs.Edges.{from, to, occurrences, 2³², edge_number, e
 use Rattle.mesh_orders.specs.Endpoint.{endpoint}
 use Rattle.mesh_orders.specs.Order.{key, order_list}
 use Rattle.mesh_orders.specs.Mates.{mate}
-use Rattle.mesh_orders.specs.EdgeLaws.{number_apart, order-number, edge-self, reverse-self, small-from, small-to, has-own, occurs-two, key-order}
-use Rattle.mesh_orders.specs.OrderLaws.{order-length, order_below, place, order-strict, ascending-edges}
+use Rattle.mesh_orders.specs.EdgeLaws.{number_apart, order-number, edge_self, reverse_self, small-from, small-to, has-own, occurs-two, key-order}
+use Rattle.mesh_orders.specs.OrderLaws.{order-length, order_below, place, order_strict, ascending-edges}
 use Rattle.mesh_orders.specs.MateLaws.{mate-reverse, mate-only, occurs-mate}
 use Rattle.mesh.specs.Check.{occurs_once, flipped_at, flipped_edge, reverse_occurs, open_at, open_edge}
 use Rattle.mesh.specs.CauseLaws.{none_each}
@@ -41,7 +41,7 @@ in_order a b x y hx hy l = ⊎_elim (λ q. inl q) (λ q. inr (omega arith)) (bel
 
 -- (to, from) in order: so are the reverses
 reverse-less : (f : List ℕ) → Faces f → (u w : ℕ) → (to f u < to f w) ⊎ ((to f u ≡ to f w) × (from f u < from f w)) → reverse f u < reverse f w
-reverse-less f h u w l = omega (arith, reverse-self f u, reverse-self f w, order-number (to f u) (from f u) (to f w) (from f w) (omega (arith, small-from f h u)) l)
+reverse-less f h u w l = omega (arith, reverse_self f u, reverse_self f w, order-number (to f u) (from f u) (to f w) (from f w) (omega (arith, small-from f h u)) l)
 
 module _ (f s : List ℕ) (h : Faces f) (no-flipped : flipped_edge f (order_list f) ≡ None) (no-open : open_edge f (order_list f) ≡ None) (p : Placed (endpoint true f) (order_list f) s) where
   once : (u : ℕ) → u < length f → occurrences f (from f u) (to f u) ≤ 1
@@ -69,11 +69,11 @@ module _ (f s : List ℕ) (h : Faces f) (no-flipped : flipped_edge f (order_list
   key-small u l = omega (arith, small-from f h u, small-to f h u, h.few)
 
   ascends : Ascending (λ u. to f u * bound + key f u) s
-  ascends = placed-ascends (endpoint true f) (order_list f) s p (key f) bound (λ i l. key-small (get_or (order_list f) i 0) (order_below f i l)) (order-strict f h)
+  ascends = placed-ascends (endpoint true f) (order_list f) s p (key f) bound (λ i l. key-small (get_or (order_list f) i 0) (order_below f i l)) (order_strict f h)
 
   -- of two uses of s the first has the smaller reverse, since no two have the same edge
-  reverses-ascend : (u w : ℕ) → u < length f → w < length f → to f u * bound + key f u < to f w * bound + key f w → reverse f u < reverse f w
-  reverses-ascend u w ul wl l = reverse-less f h u w (⊎_elim (λ q. inl q) same_end (in_order (to f u) (to f w) (key f u) (key f w) (key-small u ul) (key-small w wl) l))
+  reverses_ascend : (u w : ℕ) → u < length f → w < length f → to f u * bound + key f u < to f w * bound + key f w → reverse f u < reverse f w
+  reverses_ascend u w ul wl l = reverse-less f h u w (⊎_elim (λ q. inl q) same_end (in_order (to f u) (to f w) (key f u) (key f w) (key-small u ul) (key-small w wl) l))
     where
       same_end : (to f u ≡ to f w) × (key f u < key f w) → (to f u < to f w) ⊎ ((to f u ≡ to f w) × (from f u < from f w))
       same_end q =
@@ -103,7 +103,7 @@ module _ (f s : List ℕ) (h : Faces f) (no-flipped : flipped_edge f (order_list
       up : Ascending (edge f) mated
       up i j ij l =
           let g : j < length s = omega (arith, mated-size, size) in
-          omega (arith, mated-edge i (omega arith), mated-edge j g, reverses-ascend (get_or s i 0) (get_or s j 0) (below i (omega arith)) (below j g) (ascends i j ij g))
+          omega (arith, mated-edge i (omega arith), mated-edge j g, reverses_ascend (get_or s i 0) (get_or s j 0) (below i (omega arith)) (below j g) (ascends i j ij g))
 
   -- and they themselves the mates of the order list's
   partner : (k : ℕ) → k < length f → get_or s k 0 ≡ mate f (get_or (order_list f) k 0)
@@ -112,9 +112,9 @@ module _ (f s : List ℕ) (h : Faces f) (no-flipped : flipped_edge f (order_list
       let u = get_or (order_list f) k 0 in
       let w = get_or s k 0 in
       let e : edge f u ≡ reverse f w = ap (λ (m : List ℕ). edge f (get_or m k 0)) (sym is-order) ∙ mated-edge k g in
-      let t = number_apart (from f u) (to f u) (to f w) (from f w) (omega (arith, small-to f h u)) (omega (arith, small-from f h w)) (sym (edge-self f u) ∙ e ∙ reverse-self f w) in
+      let t = number_apart (from f u) (to f u) (to f w) (from f w) (omega (arith, small-to f h u)) (omega (arith, small-from f h w)) (sym (edge_self f u) ∙ e ∙ reverse_self f w) in
       mate-only f u h (subst₂ (λ (x y : ℕ). occurrences f x y ≤ 1) (sym t.1) (sym t.0) (once w (below k g))) w (below k g)
-      (edge-self f w ∙ ap₂ edge_number (sym t.1) (sym t.0) ∙ sym (reverse-self f u))
+      (edge_self f w ∙ ap₂ edge_number (sym t.1) (sym t.0) ∙ sym (reverse_self f u))
 
   pub holds-mates : HoldsMates f s
   holds-mates = record { size = size; at = partner }

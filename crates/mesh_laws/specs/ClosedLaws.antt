@@ -3,7 +3,7 @@ use Rattle.std.specs.Prelude.{◌≡◌, refl, List, ℕ, ◌≤◌, ◌<◌, le
 use Rattle.std.proofs.Common.{sym, ap₂, ◌∙◌, ⊎_elim, le_of_eq, arith}
 use Rattle.lists.proofs.Numbers.{below?}
 use Rattle.mesh_orders.specs.Edges.{from, to, occurrences}
-use Rattle.mesh_orders.specs.EdgeLaws.{has-own, has-pair, occurs-some, some-use}
+use Rattle.mesh_orders.specs.EdgeLaws.{has-own, has_pair, occurs_some, some_use}
 use Rattle.mesh.specs.Accepted.{Closed, ClosedPairs}
 
 pub closed_pairs : (f : List ℕ) → Closed f → ClosedPairs f
@@ -12,8 +12,8 @@ closed_pairs f h = record { once = once; back = back }
     -- an edge that occurs is that of a use
     one : (a b : ℕ) → 1 ≤ occurrences f a b → (occurrences f a b ≡ 1) × (occurrences f b a ≡ 1)
     one a b o =
-        let u = some-use f a b o in
-        let q = has-pair f u.0 a b u.2 in
+        let u = some_use f a b o in
+        let q = has_pair f u.0 a b u.2 in
         (sym (ap₂ (occurrences f) q.0 q.1) ∙ h.once u.0 u.1, sym (ap₂ (occurrences f) q.1 q.0) ∙ h.back u.0 u.1)
 
     once : (a b : ℕ) → occurrences f a b ≤ 1
@@ -26,4 +26,4 @@ pub pairs_closed : (f : List ℕ) → ClosedPairs f → Closed f
 pairs_closed f h = record { once = λ u l. omega (arith, own u l, h.once (from f u) (to f u)); back = λ u l. omega (arith, h.back (from f u) (to f u) (own u l), h.once (to f u) (from f u)) }
   where
     own : (u : ℕ) → u < length f → 1 ≤ occurrences f (from f u) (to f u)
-    own u l = occurs-some f (from f u) (to f u) u l (has-own f u (from f u) (to f u) refl refl)
+    own u l = occurs_some f (from f u) (to f u) u l (has-own f u (from f u) (to f u) refl refl)

@@ -22,8 +22,8 @@ use Rattle.mesh_orders.specs.Order.{order_list}
 use Rattle.mesh.specs.Surface.{vertex_count, face_count, volume}
 use Rattle.mesh.specs.Check.{malformed, too_many, too_short, in_limits, out_of_limits, names_vertex, no_such_vertex, count_cause, order_cause, surface_cause, mesh_cause, check_mesh}
 use Rattle.mesh.specs.Accepted.{Counted}
-use Rattle.mesh.specs.CauseLaws.{none-malformed, malformed-none, none-many, many-none, none-short, short_none, none-limits, limits-none, none-vertex}
-use Rattle.mesh.proofs.CauseNumbers.{Only, NumberWithin, only-else, skip, decided, only-malformed, only-many, only-short, only-limits, only-vertex, only-order}
+use Rattle.mesh.specs.CauseLaws.{none-malformed, malformed-none, none-many, many-none, none_short, short_none, none_limits, limits_none, none-vertex}
+use Rattle.mesh.proofs.CauseNumbers.{Only, NumberWithin, only_else, skip, decided, only-malformed, only-many, only_short, only_limits, only-vertex, only-order}
 use Rattle.mesh_laws.specs.Refused.{NotTriples, Triples, OverLimit, CountsWithin, NumberOutside, NumbersWithin, FirstNoVertex}
 use Rattle.mesh_laws.specs.Smallest.{first_fail}
 use Rattle.mesh_laws.specs.Laws.{answer-refused}
@@ -46,58 +46,58 @@ fails_either false b h = refl
 -- ---- each cause as a plain statement
 
 module _ (v : List Float) (f : List ℕ) where
-  malformed-plain : malformed v f ≡ Refused Malformed → NotTriples v f
+  malformed_plain : malformed v f ≡ Refused Malformed → NotTriples v f
   unfolding malformed
-  malformed-plain e =
+  malformed_plain e =
       let p = eqb (length v % 3) 0 in
       let q = eqb (length f % 3) 0 in
       ⊎_elim (λ a. inl (eqb-false (length v % 3) 0 a)) (λ b. inr (eqb-false (length f % 3) 0 b)) (one-fails p q (fails (p && q) Malformed Malformed e))
 
-  plain-malformed : NotTriples v f → malformed v f ≡ Refused Malformed
+  plain_malformed : NotTriples v f → malformed v f ≡ Refused Malformed
   unfolding malformed
-  plain-malformed h =
+  plain_malformed h =
       let p = eqb (length v % 3) 0 in
       let q = eqb (length f % 3) 0 in
       refuses (p && q) Malformed (fails_either p q (⊎_elim (λ a. inl (ne_eqb (length v % 3) 0 a)) (λ b. inr (ne_eqb (length f % 3) 0 b)) h))
 
-  many-plain : too_many v f ≡ Refused TooMany → OverLimit v f
+  many_plain : too_many v f ≡ Refused TooMany → OverLimit v f
   unfolding too_many
-  many-plain e =
+  many_plain e =
       let p = leb (vertex_count v) max_vertices in
       let q = leb (face_count f) max_faces in
       ⊎_elim (λ a. inl (leb-false (vertex_count v) max_vertices a)) (λ b. inr (leb-false (face_count f) max_faces b)) (one-fails p q (fails (p && q) TooMany TooMany e))
 
-  plain-many : OverLimit v f → too_many v f ≡ Refused TooMany
+  plain_many : OverLimit v f → too_many v f ≡ Refused TooMany
   unfolding too_many
-  plain-many h =
+  plain_many h =
       let p = leb (vertex_count v) max_vertices in
       let q = leb (face_count f) max_faces in
       refuses (p && q) TooMany (fails_either p q (⊎_elim (λ a. inl (lt-leb (vertex_count v) max_vertices a)) (λ b. inr (lt-leb (face_count f) max_faces b)) h))
 
-  short-plain : (n : ℕ) → too_short f n ≡ Refused TooShort → n < length f
+  short_plain : (n : ℕ) → too_short f n ≡ Refused TooShort → n < length f
   unfolding too_short
-  short-plain n e = leb-false (length f) n (fails (leb (length f) n) TooShort TooShort e)
+  short_plain n e = leb-false (length f) n (fails (leb (length f) n) TooShort TooShort e)
 
-  plain-short : (n : ℕ) → n < length f → too_short f n ≡ Refused TooShort
+  plain_short : (n : ℕ) → n < length f → too_short f n ≡ Refused TooShort
   unfolding too_short
-  plain-short n l = refuses (leb (length f) n) TooShort (lt-leb (length f) n l)
+  plain_short n l = refuses (leb (length f) n) TooShort (lt-leb (length f) n l)
 
-  limits-plain : out_of_limits v ≡ Refused OutOfLimits → NumberOutside v
+  limits_plain : out_of_limits v ≡ Refused OutOfLimits → NumberOutside v
   unfolding out_of_limits
-  limits-plain e = let g = first_fail (in_limits v) (λ i. OutOfLimits) (length v) OutOfLimits e in record { i = g.at; number = g.within; itself = g.fails }
+  limits_plain e = let g = first_fail (in_limits v) (λ i. OutOfLimits) (length v) OutOfLimits e in record { i = g.at; number = g.within; itself = g.fails }
 
-  plain-limits : NumberOutside v → out_of_limits v ≡ Refused OutOfLimits
+  plain_limits : NumberOutside v → out_of_limits v ≡ Refused OutOfLimits
   unfolding out_of_limits
-  plain-limits h = go (out_of_limits v) refl
+  plain_limits h = go (out_of_limits v) refl
     where
       go : (c : Cause) → out_of_limits v ≡ c → c ≡ Refused OutOfLimits
-      go None e = absurd (true≢false (sym (none-limits v f e h.i h.number) ∙ h.itself))
+      go None e = absurd (true≢false (sym (none_limits v f e h.i h.number) ∙ h.itself))
       go (Refused r) e = let g = first_fail (in_limits v) (λ i. OutOfLimits) (length v) r e in ap {B = Cause} Refused (sym g.refusal)
 
   -- the first corner that names no vertex is one of face k
-  vertex-plain : (k : ℕ) → length f % 3 ≡ 0 → no_such_vertex (vertex_count v) f ≡ Refused (NoSuchVertex k) → FirstNoVertex v f k
+  vertex_plain : (k : ℕ) → length f % 3 ≡ 0 → no_such_vertex (vertex_count v) f ≡ Refused (NoSuchVertex k) → FirstNoVertex v f k
   unfolding no_such_vertex
-  vertex-plain k h e =
+  vertex_plain k h e =
       let g = first_fail (names_vertex (vertex_count v) f) (λ i. NoSuchVertex (i / 3)) (length f) (NoSuchVertex k) e in
       let r = g.refusal in
       let q : g.at / 3 ≡ k = cc in
@@ -111,9 +111,9 @@ module _ (v : List Float) (f : List ℕ) where
         before = λ i l. ltb-true (get_or f i 0) (vertex_count v) (g.before i (omega arith));
       }
 
-  plain-vertex : (k : ℕ) → FirstNoVertex v f k → no_such_vertex (vertex_count v) f ≡ Refused (NoSuchVertex k)
+  plain_vertex : (k : ℕ) → FirstNoVertex v f k → no_such_vertex (vertex_count v) f ≡ Refused (NoSuchVertex k)
   unfolding no_such_vertex
-  plain-vertex k h = go (no_such_vertex (vertex_count v) f) refl
+  plain_vertex k h = go (no_such_vertex (vertex_count v) f) refl
     where
       within : 3 * k + h.j < length f
       within = omega (arith, h.face, h.corner)
@@ -160,35 +160,35 @@ module _ (v : List Float) (f : List ℕ) (n : ℕ) where
 
   only-after3 : Only (NumberWithin 4 8) after3
   only-after3 =
-      only-else (NumberWithin 4 8) (no_such_vertex (vertex_count v) f) after4 (wider 4 4 4 8 (no_such_vertex (vertex_count v) f) (omega arith) (omega arith) (only-vertex v f))
+      only_else (NumberWithin 4 8) (no_such_vertex (vertex_count v) f) after4 (wider 4 4 4 8 (no_such_vertex (vertex_count v) f) (omega arith) (omega arith) (only-vertex v f))
       (wider 5 8 4 8 after4 (omega arith) (omega arith) (only-order v f (order_list f)))
 
   only-after12 : Only (NumberWithin 3 8) after12
   only-after12 =
-      only-else (NumberWithin 3 8) (out_of_limits v) after3 (wider 3 3 3 8 (out_of_limits v) (omega arith) (omega arith) (only-limits v f))
+      only_else (NumberWithin 3 8) (out_of_limits v) after3 (wider 3 3 3 8 (out_of_limits v) (omega arith) (omega arith) (only_limits v f))
       (wider 4 8 3 8 after3 (omega arith) (omega arith) only-after3)
 
   only-after2 : Only (NumberWithin 3 12) after2
   only-after2 =
-      only-else (NumberWithin 3 12) (too_short f n) after12 (wider 12 12 3 12 (too_short f n) (omega arith) (omega arith) (only-short v f n))
+      only_else (NumberWithin 3 12) (too_short f n) after12 (wider 12 12 3 12 (too_short f n) (omega arith) (omega arith) (only_short v f n))
       (wider 3 8 3 12 after12 (omega arith) (omega arith) only-after12)
 
   only-after1 : Only (NumberWithin 2 12) after1
   only-after1 =
-      only-else (NumberWithin 2 12) (too_many v f) after2 (wider 2 2 2 12 (too_many v f) (omega arith) (omega arith) (only-many v f))
+      only_else (NumberWithin 2 12) (too_many v f) after2 (wider 2 2 2 12 (too_many v f) (omega arith) (omega arith) (only-many v f))
       (wider 3 12 2 12 after2 (omega arith) (omega arith) only-after2)
 
-  in-line : mesh_cause v f n ≡ or_else (malformed v f) after1
+  in_line : mesh_cause v f n ≡ or_else (malformed v f) after1
   unfolding mesh_cause count_cause surface_cause
-  in-line = or_assoc (malformed v f) (or_else (too_many v f) (too_short f n)) after12 ∙ ap (or_else (malformed v f)) (or_assoc (too_many v f) (too_short f n) after12)
+  in_line = or_assoc (malformed v f) (or_else (too_many v f) (too_short f n)) after12 ∙ ap (or_else (malformed v f)) (or_assoc (too_many v f) (too_short f n) after12)
 
   answered : (r : Refusal) → check_mesh v f n ≡ refused r → or_else (malformed v f) after1 ≡ Refused r
   unfolding check_mesh
-  answered r e = sym in-line ∙ answer-refused (mesh_cause v f n) (volume v f) r e
+  answered r e = sym in_line ∙ answer-refused (mesh_cause v f n) (volume v f) r e
 
   answers : (r : Refusal) → or_else (malformed v f) after1 ≡ Refused r → check_mesh v f n ≡ refused r
   unfolding check_mesh
-  answers r e = ap (λ (c : Cause). or_answer c (value (volume v f))) (in-line ∙ e)
+  answers r e = ap (λ (c : Cause). or_answer c (value (volume v f))) (in_line ∙ e)
 
   -- the causes before, for an answer of another number
   past1 : (r : Refusal) → (NumberWithin 1 1 r → ⊥) → check_mesh v f n ≡ refused r → Triples v f × (after1 ≡ Refused r)
@@ -204,53 +204,53 @@ module _ (v : List Float) (f : List ℕ) (n : ℕ) where
       → Counted v f n × (after12 ≡ Refused r)
   past12 r h k l e =
       let a = past2 r h k e in
-      let b = skip (NumberWithin 12 12) (too_short f n) after12 r (only-short v f n) l a.2 in
-      (record { coordinates = a.0.0; corners = a.0.1; vertices = a.1.0; faces = a.1.1; room = none-short v f n b.0 }, b.1)
+      let b = skip (NumberWithin 12 12) (too_short f n) after12 r (only_short v f n) l a.2 in
+      (record { coordinates = a.0.0; corners = a.0.1; vertices = a.1.0; faces = a.1.1; room = none_short v f n b.0 }, b.1)
 
   -- 1
   pub is-malformed : check_mesh v f n ≡ refused Malformed → NotTriples v f
-  is-malformed e = malformed-plain v f (decided (NumberWithin 2 12) (malformed v f) after1 Malformed only-after1 (λ q. omega (arith, q.0)) (answered Malformed e))
+  is-malformed e = malformed_plain v f (decided (NumberWithin 2 12) (malformed v f) after1 Malformed only-after1 (λ q. omega (arith, q.0)) (answered Malformed e))
 
-  pub gives-malformed : NotTriples v f → check_mesh v f n ≡ refused Malformed
-  gives-malformed h = answers Malformed (rw (plain-malformed v f h))
+  pub gives_malformed : NotTriples v f → check_mesh v f n ≡ refused Malformed
+  gives_malformed h = answers Malformed (rw (plain_malformed v f h))
 
   -- 2
-  pub is-too-many : check_mesh v f n ≡ refused TooMany → Triples v f × OverLimit v f
-  is-too-many e =
+  pub is-too_many : check_mesh v f n ≡ refused TooMany → Triples v f × OverLimit v f
+  is-too_many e =
       let a = past1 TooMany (λ q. omega (arith, q.1)) e in
-      (a.0, many-plain v f (decided (NumberWithin 3 12) (too_many v f) after2 TooMany only-after2 (λ q. omega (arith, q.0)) a.1))
+      (a.0, many_plain v f (decided (NumberWithin 3 12) (too_many v f) after2 TooMany only-after2 (λ q. omega (arith, q.0)) a.1))
 
-  pub gives-too-many : Triples v f → OverLimit v f → check_mesh v f n ≡ refused TooMany
-  gives-too-many t h = answers TooMany (rw (malformed-none v f t.0 t.1, plain-many v f h))
+  pub gives_too_many : Triples v f → OverLimit v f → check_mesh v f n ≡ refused TooMany
+  gives_too_many t h = answers TooMany (rw (malformed-none v f t.0 t.1, plain_many v f h))
 
   -- 12
-  pub is-too-short : check_mesh v f n ≡ refused TooShort → Triples v f × CountsWithin v f × (n < length f)
-  is-too-short e =
+  pub is-too_short : check_mesh v f n ≡ refused TooShort → Triples v f × CountsWithin v f × (n < length f)
+  is-too_short e =
       let a = past2 TooShort (λ q. omega (arith, q.1)) (λ q. omega (arith, q.1)) e in
-      (a.0, a.1, short-plain v f n (decided (NumberWithin 3 8) (too_short f n) after12 TooShort only-after12 (λ q. omega (arith, q.1)) a.2))
+      (a.0, a.1, short_plain v f n (decided (NumberWithin 3 8) (too_short f n) after12 TooShort only-after12 (λ q. omega (arith, q.1)) a.2))
 
-  pub gives-too-short : Triples v f → CountsWithin v f → n < length f → check_mesh v f n ≡ refused TooShort
-  gives-too-short t c h = answers TooShort (rw (malformed-none v f t.0 t.1, many-none v f c.0 c.1, plain-short v f n h))
+  pub gives_too_short : Triples v f → CountsWithin v f → n < length f → check_mesh v f n ≡ refused TooShort
+  gives_too_short t c h = answers TooShort (rw (malformed-none v f t.0 t.1, many-none v f c.0 c.1, plain_short v f n h))
 
   -- 3
-  pub is-out-of-limits : check_mesh v f n ≡ refused OutOfLimits → Counted v f n × NumberOutside v
-  is-out-of-limits e =
+  pub is-out_of_limits : check_mesh v f n ≡ refused OutOfLimits → Counted v f n × NumberOutside v
+  is-out_of_limits e =
       let a = past12 OutOfLimits (λ q. omega (arith, q.1)) (λ q. omega (arith, q.1)) (λ q. omega (arith, q.0)) e in
-      (a.0, limits-plain v f (decided (NumberWithin 4 8) (out_of_limits v) after3 OutOfLimits only-after3 (λ q. omega (arith, q.0)) a.1))
+      (a.0, limits_plain v f (decided (NumberWithin 4 8) (out_of_limits v) after3 OutOfLimits only-after3 (λ q. omega (arith, q.0)) a.1))
 
-  pub gives-out-of-limits : Counted v f n → NumberOutside v → check_mesh v f n ≡ refused OutOfLimits
-  gives-out-of-limits c h =
-      answers OutOfLimits (rw (malformed-none v f c.coordinates c.corners, many-none v f c.vertices c.faces, short_none v f n c.room, plain-limits v f h))
+  pub gives_out_of_limits : Counted v f n → NumberOutside v → check_mesh v f n ≡ refused OutOfLimits
+  gives_out_of_limits c h =
+      answers OutOfLimits (rw (malformed-none v f c.coordinates c.corners, many-none v f c.vertices c.faces, short_none v f n c.room, plain_limits v f h))
 
   -- 4
-  pub is-no-such-vertex : (k : ℕ) → check_mesh v f n ≡ refused (NoSuchVertex k) → Counted v f n × NumbersWithin v × FirstNoVertex v f k
-  is-no-such-vertex k e =
+  pub is-no_such_vertex : (k : ℕ) → check_mesh v f n ≡ refused (NoSuchVertex k) → Counted v f n × NumbersWithin v × FirstNoVertex v f k
+  is-no_such_vertex k e =
       let a = past12 (NoSuchVertex k) (λ q. omega (arith, q.1)) (λ q. omega (arith, q.1)) (λ q. omega (arith, q.0)) e in
-      let b = skip (NumberWithin 3 3) (out_of_limits v) after3 (NoSuchVertex k) (only-limits v f) (λ q. omega (arith, q.1)) a.1 in
+      let b = skip (NumberWithin 3 3) (out_of_limits v) after3 (NoSuchVertex k) (only_limits v f) (λ q. omega (arith, q.1)) a.1 in
       let d = decided (NumberWithin 5 8) (no_such_vertex (vertex_count v) f) after4 (NoSuchVertex k) (only-order v f (order_list f)) (λ q. omega (arith, q.0)) b.1 in
-      (a.0, none-limits v f b.0, vertex-plain v f k a.0.corners d)
+      (a.0, none_limits v f b.0, vertex_plain v f k a.0.corners d)
 
-  pub gives-no-such-vertex : (k : ℕ) → Counted v f n → NumbersWithin v → FirstNoVertex v f k → check_mesh v f n ≡ refused (NoSuchVertex k)
-  gives-no-such-vertex k c l h =
+  pub gives_no_such_vertex : (k : ℕ) → Counted v f n → NumbersWithin v → FirstNoVertex v f k → check_mesh v f n ≡ refused (NoSuchVertex k)
+  gives_no_such_vertex k c l h =
       answers (NoSuchVertex k)
-      (rw (malformed-none v f c.coordinates c.corners, many-none v f c.vertices c.faces, short_none v f n c.room, limits-none v f l, plain-vertex v f k h))
+      (rw (malformed-none v f c.coordinates c.corners, many-none v f c.vertices c.faces, short_none v f n c.room, limits_none v f l, plain_vertex v f k h))

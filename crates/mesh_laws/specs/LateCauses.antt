@@ -18,7 +18,7 @@ use Rattle.mesh_orders.specs.Order.{order_list}
 use Rattle.mesh.specs.Surface.{face_count, normal, is_zero, volume}
 use Rattle.mesh.specs.Check.{flipped_edge, open_edge, has_normal, degenerate_face, inverted, faces_cause, order_cause}
 use Rattle.mesh.specs.Accepted.{Closed}
-use Rattle.mesh.specs.CauseLaws.{each_none, none-degenerate, degenerate-none, none-inverted, inverted-none}
+use Rattle.mesh.specs.CauseLaws.{each_none, none_degenerate, degenerate_none, none-inverted, inverted-none}
 use Rattle.mesh_laws.specs.Refused.{SmallestTwice, SmallestOpen, FirstDegenerate}
 use Rattle.mesh_laws.specs.ClosedLaws.{closed_pairs, pairs_closed}
 use Rattle.mesh_laws.specs.Smallest.{all_pass, pass_all, smallest, from-smallest, first_fail}
@@ -27,22 +27,22 @@ use Rattle.mesh_laws.specs.Smallest.{all_pass, pass_all, smallest, from-smallest
 
 module _ (f : List ℕ) (h : Faces f) where
   -- 5: none exactly where no edge occurs twice, else the smallest
-  abbrev atMostOnce : ℕ → ℕ → Bool
-  atMostOnce a b = leb (occurrences f a b) 1
+  abbrev at_most_once : ℕ → ℕ → Bool
+  at_most_once a b = leb (occurrences f a b) 1
 
-  pub none-flipped : flipped_edge f (order_list f) ≡ None → (a b : ℕ) → occurrences f a b ≤ 1
+  pub none_flipped : flipped_edge f (order_list f) ≡ None → (a b : ℕ) → occurrences f a b ≤ 1
   unfolding flipped_edge
-  none-flipped e a b =
-      ⊎_elim (λ l. omega arith) (λ l. leb-true (occurrences f a b) 1 (all_pass f h atMostOnce (λ c d. Flipped c d) e a b l)) (below? (occurrences f a b) 1)
+  none_flipped e a b =
+      ⊎_elim (λ l. omega arith) (λ l. leb-true (occurrences f a b) 1 (all_pass f h at_most_once (λ c d. Flipped c d) e a b l)) (below? (occurrences f a b) 1)
 
-  pub flipped-none : ((a b : ℕ) → occurrences f a b ≤ 1) → flipped_edge f (order_list f) ≡ None
+  pub flipped_none : ((a b : ℕ) → occurrences f a b ≤ 1) → flipped_edge f (order_list f) ≡ None
   unfolding flipped_edge
-  flipped-none o = pass_all f h atMostOnce (λ c d. Flipped c d) (λ u l. le-leb (occurrences f (from f u) (to f u)) 1 (o (from f u) (to f u)))
+  flipped_none o = pass_all f h at_most_once (λ c d. Flipped c d) (λ u l. le-leb (occurrences f (from f u) (to f u)) 1 (o (from f u) (to f u)))
 
-  pub flipped-smallest : (a b : ℕ) → flipped_edge f (order_list f) ≡ Refused (Flipped a b) → SmallestTwice f a b
+  pub flipped_smallest : (a b : ℕ) → flipped_edge f (order_list f) ≡ Refused (Flipped a b) → SmallestTwice f a b
   unfolding flipped_edge
-  flipped-smallest a b e =
-      let g = smallest f h atMostOnce (λ c d. Flipped c d) (Flipped a b) e in
+  flipped_smallest a b e =
+      let g = smallest f h at_most_once (λ c d. Flipped c d) (Flipped a b) e in
       let q = g.2 in
       subst₂ (SmallestTwice f) (let z : g.0 ≡ a = cc in z) (let z : g.1 ≡ b = cc in z)
       (record {
@@ -50,10 +50,10 @@ module _ (f : List ℕ) (h : Faces f) where
         least = λ c d two. g.3.least c d (omega arith) (lt-leb (occurrences f c d) 1 two);
       })
 
-  pub smallest-flipped : (a b : ℕ) → SmallestTwice f a b → flipped_edge f (order_list f) ≡ Refused (Flipped a b)
+  pub smallest_flipped : (a b : ℕ) → SmallestTwice f a b → flipped_edge f (order_list f) ≡ Refused (Flipped a b)
   unfolding flipped_edge
-  smallest-flipped a b m =
-      from-smallest f h atMostOnce (λ c d. Flipped c d) a b
+  smallest_flipped a b m =
+      from-smallest f h at_most_once (λ c d. Flipped c d) a b
       (record { occurs = omega (arith, m.itself); fails = lt-leb (occurrences f a b) 1 m.itself; least = λ c d o t. m.least c d (leb-false (occurrences f c d) 1 t) })
 
   -- 6: none exactly where the reverse of each edge occurs, else the smallest
@@ -68,9 +68,9 @@ module _ (f : List ℕ) (h : Faces f) where
   unfolding open_edge
   open_none o = pass_all f h reversed (λ c d. Open c d) (λ u l. le-leb 1 (occurrences f (to f u) (from f u)) (o u l))
 
-  pub open-smallest : (a b : ℕ) → open_edge f (order_list f) ≡ Refused (Open a b) → SmallestOpen f a b
+  pub open_smallest : (a b : ℕ) → open_edge f (order_list f) ≡ Refused (Open a b) → SmallestOpen f a b
   unfolding open_edge
-  open-smallest a b e =
+  open_smallest a b e =
       let g = smallest f h reversed (λ c d. Open c d) (Open a b) e in
       let q = g.2 in
       subst₂ (SmallestOpen f) (let z : g.0 ≡ a = cc in z) (let z : g.1 ≡ b = cc in z)
@@ -80,9 +80,9 @@ module _ (f : List ℕ) (h : Faces f) where
         least = λ c d o z. g.3.least c d o (lt-leb 1 (occurrences f d c) (omega arith));
       })
 
-  pub smallest-open : (a b : ℕ) → SmallestOpen f a b → open_edge f (order_list f) ≡ Refused (Open a b)
+  pub smallest_open : (a b : ℕ) → SmallestOpen f a b → open_edge f (order_list f) ≡ Refused (Open a b)
   unfolding open_edge
-  smallest-open a b m =
+  smallest_open a b m =
       from-smallest f h reversed (λ c d. Open c d) a b
       (record {
         occurs = m.itself;
@@ -92,25 +92,25 @@ module _ (f : List ℕ) (h : Faces f) where
 
   -- neither 5 nor 6: closed
   pub none-closed : flipped_edge f (order_list f) ≡ None → open_edge f (order_list f) ≡ None → Closed f
-  none-closed p q = pairs_closed f (record { once = none-flipped p; back = none_open q })
+  none-closed p q = pairs_closed f (record { once = none_flipped p; back = none_open q })
 
   pub closed_none : Closed f → (flipped_edge f (order_list f) ≡ None) × (open_edge f (order_list f) ≡ None)
-  closed_none c = (flipped-none (closed_pairs f c).once, open_none (λ u l. omega (arith, c.back u l)))
+  closed_none c = (flipped_none (closed_pairs f c).once, open_none (λ u l. omega (arith, c.back u l)))
 
 -- ---- the cause 7
 
 module _ (v : List Float) (f : List ℕ) where
-  pub degenerate-first : (k : ℕ) → degenerate_face v f ≡ Refused (Degenerate k) → FirstDegenerate v f k
+  pub degenerate_first : (k : ℕ) → degenerate_face v f ≡ Refused (Degenerate k) → FirstDegenerate v f k
   unfolding degenerate_face
-  degenerate-first k e =
+  degenerate_first k e =
       let g = first_fail (has_normal v f) (λ j. Degenerate j) (face_count f) (Degenerate k) e in
       let q = g.refusal in
       subst (FirstDegenerate v f) (let z : g.at ≡ k = cc in z)
       (record { face = g.within; itself = not-false (is_zero (normal v f g.at)) g.fails; before = λ j l. not-true (is_zero (normal v f j)) (g.before j l) })
 
-  pub first-degenerate : (k : ℕ) → FirstDegenerate v f k → degenerate_face v f ≡ Refused (Degenerate k)
+  pub first_degenerate : (k : ℕ) → FirstDegenerate v f k → degenerate_face v f ≡ Refused (Degenerate k)
   unfolding degenerate_face
-  first-degenerate k d =
+  first_degenerate k d =
       stop (face_count f) k (λ j. unless (has_normal v f j) (Degenerate j)) (Degenerate k) d.face
       (each_none k (has_normal v f) (λ j. Degenerate j) (λ j l. ap not (d.before j l)))
       (refuses (has_normal v f k) (Degenerate k) (ap not d.itself))
@@ -137,8 +137,8 @@ module _ (v : List Float) (f : List ℕ) where
       let a = both (flipped_edge f (order_list f)) (or_else (open_edge f (order_list f)) (faces_cause v f)) e in
       let b = both (open_edge f (order_list f)) (faces_cause v f) a.1 in
       let c = both (degenerate_face v f) (inverted v f) b.1 in
-      (none-closed f h a.0 b.0, none-degenerate v f c.0, none-inverted v f c.1)
+      (none-closed f h a.0 b.0, none_degenerate v f c.0, none-inverted v f c.1)
 
   pub order-none : Faces f → Outward → order_cause v f (order_list f) ≡ None
   unfolding order_cause faces_cause
-  order-none h s = let c = closed_none f h s.0 in rw (c.0, c.1, degenerate-none v f s.1, inverted-none v f s.2)
+  order-none h s = let c = closed_none f h s.0 in rw (c.0, c.1, degenerate_none v f s.1, inverted-none v f s.2)

@@ -22,11 +22,11 @@ use Rattle.mesh.specs.declared.Solid.{Solid}
 use Rattle.mesh.specs.Surface.{vertex_count, face_count, normal, is_zero, volume}
 use Rattle.mesh.specs.Check.{no_such_vertex, flipped_edge, open_edge, degenerate_face, inverted, faces_cause, order_cause, surface_cause, mesh_cause, solid_of, check_mesh, work_after}
 use Rattle.mesh.specs.Accepted.{Counted, Checked, Sound, Closed, Accepted}
-use Rattle.mesh.specs.CauseLaws.{is_body, none-vertex, vertex-none, none-degenerate, degenerate-none}
-use Rattle.mesh.proofs.CauseNumbers.{NumberWithin, skip, decided, only-flipped, only-open, only-degenerate, only-inverted, only-faces, only-after-flipped}
+use Rattle.mesh.specs.CauseLaws.{is_body, none-vertex, vertex-none, none_degenerate, degenerate_none}
+use Rattle.mesh.proofs.CauseNumbers.{NumberWithin, skip, decided, only_flipped, only_open, only_degenerate, only-inverted, only-faces, only-after_flipped}
 use Rattle.mesh_laws.specs.Refused.{SmallestTwice, SmallestOpen, FirstDegenerate}
-use Rattle.mesh_laws.specs.Chain.{sound-body, sound-order, none-sound, late-sound}
-use Rattle.mesh_laws.specs.LateCauses.{none-flipped, flipped-none, flipped-smallest, smallest-flipped, open-smallest, smallest-open, none-closed, closed_none, degenerate-first, first-degenerate, not-positive, none-order, order-none}
+use Rattle.mesh_laws.specs.Chain.{sound-body, sound-order, none-sound, late_sound}
+use Rattle.mesh_laws.specs.LateCauses.{none_flipped, flipped_none, flipped_smallest, smallest_flipped, open_smallest, smallest_open, none-closed, closed_none, degenerate_first, first_degenerate, not-positive, none-order, order-none}
 
 -- ---- the answers
 
@@ -54,11 +54,11 @@ module _ (v : List Float) (f : List ℕ) (n : ℕ) where
 
   late : (r : Refusal) → 5 ≤ number_of r → number_of r ≤ 8 → check_mesh v f n ≡ refused r → Sound v f n × (order_cause v f (order_list f) ≡ Refused r)
   unfolding check_mesh
-  late r lo hi e = late-sound v f n r lo hi (answer-refused (mesh_cause v f n) (volume v f) r e)
+  late r lo hi e = late_sound v f n r lo hi (answer-refused (mesh_cause v f n) (volume v f) r e)
 
   -- the causes after 5
-  abbrev after-flipped : Cause
-  after-flipped = or_else (open_edge f (order_list f)) (faces_cause v f)
+  abbrev after_flipped : Cause
+  after_flipped = or_else (open_edge f (order_list f)) (faces_cause v f)
 
   -- accepted
   pub accepted : (x : Float) → check_mesh v f n ≡ value x → Accepted v f n x
@@ -89,13 +89,13 @@ module _ (v : List Float) (f : List ℕ) (n : ℕ) where
   flipped a b e =
       let s = late (Flipped a b) (omega arith) (omega arith) e in (
         s.0,
-        flipped-smallest f (sound-body v f n s.0).faces a b
-            (decided (NumberWithin 6 8) (flipped_edge f (order_list f)) after-flipped (Flipped a b) (only-after-flipped v f (order_list f)) (λ q. omega (arith, q.0)) s.1),
+        flipped_smallest f (sound-body v f n s.0).faces a b
+            (decided (NumberWithin 6 8) (flipped_edge f (order_list f)) after_flipped (Flipped a b) (only-after_flipped v f (order_list f)) (λ q. omega (arith, q.0)) s.1),
       )
 
   pub flips : (a b : ℕ) → Sound v f n → SmallestTwice f a b → check_mesh v f n ≡ refused (Flipped a b)
   unfolding order_cause
-  flips a b s m = answer s (Refused (Flipped a b)) (rw (smallest-flipped f (sound-body v f n s).faces a b m))
+  flips a b s m = answer s (Refused (Flipped a b)) (rw (smallest_flipped f (sound-body v f n s).faces a b m))
 
   -- Open
   pub is_open : (a b : ℕ) → check_mesh v f n ≡ refused (Open a b) → Sound v f n × ((c d : ℕ) → occurrences f c d ≤ 1) × SmallestOpen f a b
@@ -103,33 +103,33 @@ module _ (v : List Float) (f : List ℕ) (n : ℕ) where
   is_open a b e =
       let s = late (Open a b) (omega arith) (omega arith) e in
       let h = (sound-body v f n s.0).faces in
-      let t = skip (NumberWithin 5 5) (flipped_edge f (order_list f)) after-flipped (Open a b) (only-flipped v f (order_list f)) (λ q. omega (arith, q.1)) s.1 in (
+      let t = skip (NumberWithin 5 5) (flipped_edge f (order_list f)) after_flipped (Open a b) (only_flipped v f (order_list f)) (λ q. omega (arith, q.1)) s.1 in (
         s.0,
-        none-flipped f h t.0,
-        open-smallest f h a b
+        none_flipped f h t.0,
+        open_smallest f h a b
             (decided (NumberWithin 7 8) (open_edge f (order_list f)) (faces_cause v f) (Open a b) (only-faces v f) (λ q. omega (arith, q.0)) t.1),
       )
 
   pub opens : (a b : ℕ) → Sound v f n → ((c d : ℕ) → occurrences f c d ≤ 1) → SmallestOpen f a b → check_mesh v f n ≡ refused (Open a b)
   unfolding order_cause
-  opens a b s o m = let h = (sound-body v f n s).faces in answer s (Refused (Open a b)) (rw (flipped-none f h o, smallest-open f h a b m))
+  opens a b s o m = let h = (sound-body v f n s).faces in answer s (Refused (Open a b)) (rw (flipped_none f h o, smallest_open f h a b m))
 
   -- Degenerate
   pub degenerate : (k : ℕ) → check_mesh v f n ≡ refused (Degenerate k) → Sound v f n × Closed f × FirstDegenerate v f k
   unfolding order_cause faces_cause
   degenerate k e =
       let s = late (Degenerate k) (omega arith) (omega arith) e in
-      let t = skip (NumberWithin 5 5) (flipped_edge f (order_list f)) after-flipped (Degenerate k) (only-flipped v f (order_list f)) (λ q. omega (arith, q.1)) s.1 in
-      let u = skip (NumberWithin 6 6) (open_edge f (order_list f)) (faces_cause v f) (Degenerate k) (only-open v f (order_list f)) (λ q. omega (arith, q.1)) t.1 in (
+      let t = skip (NumberWithin 5 5) (flipped_edge f (order_list f)) after_flipped (Degenerate k) (only_flipped v f (order_list f)) (λ q. omega (arith, q.1)) s.1 in
+      let u = skip (NumberWithin 6 6) (open_edge f (order_list f)) (faces_cause v f) (Degenerate k) (only_open v f (order_list f)) (λ q. omega (arith, q.1)) t.1 in (
         s.0,
         none-closed f (sound-body v f n s.0).faces t.0 u.0,
-        degenerate-first v f k
+        degenerate_first v f k
             (decided (NumberWithin 8 8) (degenerate_face v f) (inverted v f) (Degenerate k) (only-inverted v f) (λ q. omega (arith, q.0)) u.1),
       )
 
   pub degenerates : (k : ℕ) → Sound v f n → Closed f → FirstDegenerate v f k → check_mesh v f n ≡ refused (Degenerate k)
   unfolding order_cause faces_cause
-  degenerates k s c d = let z = closed_none f (sound-body v f n s).faces c in answer s (Refused (Degenerate k)) (rw (z.0, z.1, first-degenerate v f k d))
+  degenerates k s c d = let z = closed_none f (sound-body v f n s).faces c in answer s (Refused (Degenerate k)) (rw (z.0, z.1, first_degenerate v f k d))
 
   -- Inverted
   pub is-inverted : check_mesh v f n ≡ refused Inverted
@@ -137,14 +137,14 @@ module _ (v : List Float) (f : List ℕ) (n : ℕ) where
   unfolding order_cause faces_cause
   is-inverted e =
       let s = late Inverted (omega arith) (omega arith) e in
-      let t = skip (NumberWithin 5 5) (flipped_edge f (order_list f)) after-flipped Inverted (only-flipped v f (order_list f)) (λ q. omega (arith, q.1)) s.1 in
-      let u = skip (NumberWithin 6 6) (open_edge f (order_list f)) (faces_cause v f) Inverted (only-open v f (order_list f)) (λ q. omega (arith, q.1)) t.1 in
-      let w = skip (NumberWithin 7 7) (degenerate_face v f) (inverted v f) Inverted (only-degenerate v f) (λ q. omega (arith, q.1)) u.1 in
-      (s.0, none-closed f (sound-body v f n s.0).faces t.0 u.0, none-degenerate v f w.0, not-positive v f w.1)
+      let t = skip (NumberWithin 5 5) (flipped_edge f (order_list f)) after_flipped Inverted (only_flipped v f (order_list f)) (λ q. omega (arith, q.1)) s.1 in
+      let u = skip (NumberWithin 6 6) (open_edge f (order_list f)) (faces_cause v f) Inverted (only_open v f (order_list f)) (λ q. omega (arith, q.1)) t.1 in
+      let w = skip (NumberWithin 7 7) (degenerate_face v f) (inverted v f) Inverted (only_degenerate v f) (λ q. omega (arith, q.1)) u.1 in
+      (s.0, none-closed f (sound-body v f n s.0).faces t.0 u.0, none_degenerate v f w.0, not-positive v f w.1)
 
   pub inverts : Sound v f n → Closed f → ((k : ℕ) → k < face_count f → is_zero (normal v f k) ≡ false) → lt 0·0 (volume v f) ≡ false → check_mesh v f n ≡ refused Inverted
   unfolding order_cause faces_cause inverted
-  inverts s c d p = let z = closed_none f (sound-body v f n s).faces c in answer s (Refused Inverted) (rw (z.0, z.1, degenerate-none v f d, p))
+  inverts s c d p = let z = closed_none f (sound-body v f n s).faces c in answer s (Refused Inverted) (rw (z.0, z.1, degenerate_none v f d, p))
 
 -- ---- what `check_surface` leaves
 

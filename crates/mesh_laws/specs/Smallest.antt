@@ -11,7 +11,7 @@ use Rattle.refusals.specs.Causes.{or_else, unless, first_of}
 use Rattle.lists.proofs.Numbers.{below?, true≢false}
 use Rattle.mesh_orders.specs.Edges.{from, to, occurrences, 2³², edge_number, Faces}
 use Rattle.mesh_orders.specs.Order.{order_list}
-use Rattle.mesh_orders.specs.EdgeLaws.{edge-self, has-own, has-pair, small-to, occurs-some, some-use}
+use Rattle.mesh_orders.specs.EdgeLaws.{edge_self, has-own, has_pair, small-to, occurs_some, some_use}
 use Rattle.mesh_orders.specs.OrderLaws.{order-length, order_below, place, edge-le}
 use Rattle.mesh_laws.specs.Refused.{NotAfter}
 use Rattle.mesh.specs.CauseLaws.{none_each, each_none}
@@ -70,37 +70,37 @@ module _ (f : List ℕ) (h : Faces f) (T : ℕ → ℕ → Bool) (R : ℕ → �
   abbrev test : ℕ → Bool
   test i = T (from f (get_or (order_list f) i 0)) (to f (get_or (order_list f) i 0))
 
-  abbrev refusalAt : ℕ → Refusal
-  refusalAt i = R (from f (get_or (order_list f) i 0)) (to f (get_or (order_list f) i 0))
+  abbrev refusal_at : ℕ → Refusal
+  refusal_at i = R (from f (get_or (order_list f) i 0)) (to f (get_or (order_list f) i 0))
 
   -- an edge that occurs stands at a place
   edge-place : (a b : ℕ) → 1 ≤ occurrences f a b → (i : ℕ) × (i < length f) × (from f (get_or (order_list f) i 0) ≡ a) × (to f (get_or (order_list f) i 0) ≡ b)
   edge-place a b o =
-      let u = some-use f a b o in
-      let q = has-pair f u.0 a b u.2 in
+      let u = some_use f a b o in
+      let q = has_pair f u.0 a b u.2 in
       let p = place f u.0 u.1 in
       (p.at, omega (arith, p.within, order-length f), ap (from f) p.is ∙ q.0, ap (to f) p.is ∙ q.1)
 
-  pub all_pass : first_of (length f) (λ i. unless (test i) (refusalAt i)) ≡ None → (a b : ℕ) → 1 ≤ occurrences f a b → T a b ≡ true
+  pub all_pass : first_of (length f) (λ i. unless (test i) (refusal_at i)) ≡ None → (a b : ℕ) → 1 ≤ occurrences f a b → T a b ≡ true
   all_pass e a b o =
       let p = edge-place a b o in
-      sym (ap₂ T p.2 p.3) ∙ none_each (length f) test refusalAt e p.0 p.1
+      sym (ap₂ T p.2 p.3) ∙ none_each (length f) test refusal_at e p.0 p.1
 
-  pub pass_all : ((u : ℕ) → u < length f → T (from f u) (to f u) ≡ true) → first_of (length f) (λ i. unless (test i) (refusalAt i)) ≡ None
-  pass_all t = each_none (length f) test refusalAt (λ i l. t (get_or (order_list f) i 0) (order_below f i (omega (arith, order-length f))))
+  pub pass_all : ((u : ℕ) → u < length f → T (from f u) (to f u) ≡ true) → first_of (length f) (λ i. unless (test i) (refusal_at i)) ≡ None
+  pass_all t = each_none (length f) test refusal_at (λ i l. t (get_or (order_list f) i 0) (order_below f i (omega (arith, order-length f))))
 
-  pub smallest : (s : Refusal) → first_of (length f) (λ i. unless (test i) (refusalAt i)) ≡ Refused s
+  pub smallest : (s : Refusal) → first_of (length f) (λ i. unless (test i) (refusal_at i)) ≡ Refused s
       → (a : ℕ) × (b : ℕ) × (R a b ≡ s) × Smallest f T a b
   smallest s e = (from f u, to f u, g.refusal, record { occurs = occurs; fails = g.fails; least = least })
     where
-      g : FirstFail (length f) test refusalAt s
-      g = first_fail test refusalAt (length f) s e
+      g : FirstFail (length f) test refusal_at s
+      g = first_fail test refusal_at (length f) s e
 
       u : ℕ
       u = get_or (order_list f) g.at 0
 
       occurs : 1 ≤ occurrences f (from f u) (to f u)
-      occurs = occurs-some f (from f u) (to f u) u (order_below f g.at (omega (arith, g.within, order-length f))) (has-own f u (from f u) (to f u) refl refl)
+      occurs = occurs_some f (from f u) (to f u) u (order_below f g.at (omega (arith, g.within, order-length f))) (has-own f u (from f u) (to f u) refl refl)
 
       least : (c d : ℕ) → 1 ≤ occurrences f c d → T c d ≡ false → NotAfter (from f u) (to f u) c d
       least c d o t =
@@ -109,12 +109,12 @@ module _ (f : List ℕ) (h : Faces f) (T : ℕ → ℕ → Bool) (R : ℕ → �
           let late : g.at ≤ p.0 =
           ⊎_elim (λ l. absurd (true≢false (sym (g.before p.0 l) ∙ ap₂ T p.2 p.3 ∙ t))) (λ l. l) (below? p.0 g.at) in
           not_after (from f u) (to f u) c d (omega (arith, small-to f h u)) (omega (arith, small-to f h w, p.3))
-          (omega (arith, edge-le f h g.at p.0 late p.1, edge-self f u, edge-self f w, p.2, p.3))
+          (omega (arith, edge-le f h g.at p.0 late p.1, edge_self f u, edge_self f w, p.2, p.3))
 
-  pub from-smallest : (a b : ℕ) → Smallest f T a b → first_of (length f) (λ i. unless (test i) (refusalAt i)) ≡ Refused (R a b)
-  from-smallest a b m = go (first_of (length f) (λ i. unless (test i) (refusalAt i))) refl
+  pub from-smallest : (a b : ℕ) → Smallest f T a b → first_of (length f) (λ i. unless (test i) (refusal_at i)) ≡ Refused (R a b)
+  from-smallest a b m = go (first_of (length f) (λ i. unless (test i) (refusal_at i))) refl
     where
-      go : (c : Cause) → first_of (length f) (λ i. unless (test i) (refusalAt i)) ≡ c → c ≡ Refused (R a b)
+      go : (c : Cause) → first_of (length f) (λ i. unless (test i) (refusal_at i)) ≡ c → c ≡ Refused (R a b)
       go None e = absurd (true≢false (sym (all_pass e a b m.occurs) ∙ m.fails))
       go (Refused s) e =
           let g = smallest s e in

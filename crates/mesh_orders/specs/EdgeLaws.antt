@@ -8,7 +8,7 @@ use Rattle.std.proofs.Math.Logic.{inl, inr, ⊎_elim}
 use Rattle.lists.specs.Count.{Below}
 use Rattle.lists.proofs.Numbers.{both, below?}
 use Rattle.lists.proofs.Counts.{below_all}
-use Rattle.lists.proofs.Tallies.{tally-one, tally-some, tally-two, some-tally}
+use Rattle.lists.proofs.Tallies.{tally-one, tally_some, tally-two, some_tally}
 use Rattle.mesh_orders.specs.Edges.{next, from, to, has, occurrences, 2³², edge_number, edge, reverse, max_vertices, Faces}
 use Rattle.mesh_orders.specs.Endpoint.{endpoint}
 use Rattle.mesh_orders.specs.Order.{key}
@@ -31,26 +31,26 @@ order-number a b c d hb l = ⊎_elim (λ q. omega arith) (λ q. omega (arith, q.
 -- ---- the edges of a face list within the limits
 
 module _ (f : List ℕ) where
-  pub edge-self : (u : ℕ) → edge f u ≡ edge_number (from f u) (to f u)
+  pub edge_self : (u : ℕ) → edge f u ≡ edge_number (from f u) (to f u)
   unfolding edge
-  edge-self u = refl
+  edge_self u = refl
 
-  pub reverse-self : (u : ℕ) → reverse f u ≡ edge_number (to f u) (from f u)
+  pub reverse_self : (u : ℕ) → reverse f u ≡ edge_number (to f u) (from f u)
   unfolding reverse
-  reverse-self u = refl
+  reverse_self u = refl
 
   -- whoever has an edge has its number
   pub has-own : (u a b : ℕ) → from f u ≡ a → to f u ≡ b → has f a b u ≡ true
   has-own u a b p q = ap₂ (λ (x y : Bool). x && y) (eq-eqb (from f u) a p) (eq-eqb (to f u) b q)
 
-  pub has-pair : (u a b : ℕ) → has f a b u ≡ true → (from f u ≡ a) × (to f u ≡ b)
-  has-pair u a b e =
+  pub has_pair : (u a b : ℕ) → has f a b u ≡ true → (from f u ≡ a) × (to f u ≡ b)
+  has_pair u a b e =
       let t = both (eqb (from f u) a) (eqb (to f u) b) e in
       (eqb-true (from f u) a t.0, eqb-true (to f u) b t.1)
 
   pub has-number : (u a b : ℕ) → has f a b u ≡ true → edge f u ≡ edge_number a b
   unfolding edge
-  has-number u a b e = let t = has-pair u a b e in omega (arith, t.0, t.1)
+  has-number u a b e = let t = has_pair u a b e in omega (arith, t.0, t.1)
 
   -- ---- how often an edge occurs
 
@@ -58,17 +58,17 @@ module _ (f : List ℕ) where
   unfolding occurrences
   occurs-one a b u l t h = tally-one (has f a b) (length f) u l t h
 
-  pub occurs-some : (a b u : ℕ) → u < length f → has f a b u ≡ true → 1 ≤ occurrences f a b
+  pub occurs_some : (a b u : ℕ) → u < length f → has f a b u ≡ true → 1 ≤ occurrences f a b
   unfolding occurrences
-  occurs-some a b u l t = tally-some (has f a b) (length f) u l t
+  occurs_some a b u l t = tally_some (has f a b) (length f) u l t
 
   pub occurs-two : (a b u w : ℕ) → u < w → w < length f → has f a b u ≡ true → has f a b w ≡ true → 2 ≤ occurrences f a b
   unfolding occurrences
   occurs-two a b u w l m t s = tally-two (has f a b) (length f) u w l m t s
 
-  pub some-use : (a b : ℕ) → 1 ≤ occurrences f a b → (u : ℕ) × (u < length f) × (has f a b u ≡ true)
+  pub some_use : (a b : ℕ) → 1 ≤ occurrences f a b → (u : ℕ) × (u < length f) × (has f a b u ≡ true)
   unfolding occurrences
-  some-use a b h = some-tally (has f a b) (length f) h
+  some_use a b h = some_tally (has f a b) (length f) h
 
   -- an end of a use is one of the vertices
   pub small-endpoint : (b : ℕ) → Below f b → 0 < length f → (ends : Bool) (u : ℕ) → endpoint ends f u < b
@@ -93,12 +93,12 @@ module _ (f : List ℕ) where
     pub edge-one : (u : ℕ) → u < length f → ((w : ℕ) → w < length f → edge f w ≡ edge f u → w ≡ u) → occurrences f (from f u) (to f u) ≡ 1
     edge-one u ul n =
         occurs-one (from f u) (to f u) u ul (has-own u (from f u) (to f u) refl refl)
-        (λ w wl t. n w wl (has-number w (from f u) (to f u) t ∙ sym (edge-self u)))
+        (λ w wl t. n w wl (has-number w (from f u) (to f u) t ∙ sym (edge_self u)))
 
     -- keys tell edge uses apart, and are ordered as (from, to, use)
-    pub use-key-apart : (u w : ℕ) → u < length f → w < length f → key f u ≡ key f w → u ≡ w
+    pub use_key_apart : (u w : ℕ) → u < length f → w < length f → key f u ≡ key f w → u ≡ w
     unfolding key
-    use-key-apart u w ul wl e = omega (arith, h.few)
+    use_key_apart u w ul wl e = omega (arith, h.few)
 
     pub key-order : (u w : ℕ) → u < length f → w < length f → key f u < key f w
         → Before (from f u) (to f u) (from f w) (to f w) ⊎ ((from f u ≡ from f w) × (to f u ≡ to f w) × (u < w))

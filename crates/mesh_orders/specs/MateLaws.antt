@@ -15,8 +15,8 @@ use Rattle.lists.proofs.Firsts.{first-is, first_unique}
 use Rattle.mesh_orders.specs.Edges.{from, to, has, occurrences, edge, reverse, Faces}
 use Rattle.mesh_orders.specs.Order.{key, order_list}
 use Rattle.mesh_orders.specs.Mates.{mate}
-use Rattle.mesh_orders.specs.EdgeLaws.{reverse-self, has-number, number-has, small-from, occurs-some, occurs-two, some-use}
-use Rattle.mesh_orders.specs.OrderLaws.{order-length, order_below, place, order-strict, edge-le}
+use Rattle.mesh_orders.specs.EdgeLaws.{reverse_self, has-number, number-has, small-from, occurs_some, occurs-two, some_use}
+use Rattle.mesh_orders.specs.OrderLaws.{order-length, order_below, place, order_strict, edge-le}
 
 module _ (f : List ℕ) (u : ℕ) where
   first-mate : IsFirst (λ w. eqb (edge f w) (reverse f u)) (length f) (mate f u)
@@ -41,21 +41,21 @@ module _ (f : List ℕ) (u : ℕ) where
 
   module _ (h : Faces f) where
     has-reverse : (w : ℕ) → edge f w ≡ reverse f u → has f (to f u) (from f u) w ≡ true
-    has-reverse w e = number-has f h w (to f u) (from f u) (omega (arith, small-from f h u)) (e ∙ reverse-self f u)
+    has-reverse w e = number-has f h w (to f u) (from f u) (omega (arith, small-from f h u)) (e ∙ reverse_self f u)
 
     -- there is a mate exactly where the reverse occurs
     pub reverse-occurs : (w : ℕ) → w < length f → edge f w ≡ reverse f u → 1 ≤ occurrences f (to f u) (from f u)
-    reverse-occurs w l e = occurs-some f (to f u) (from f u) w l (has-reverse w e)
+    reverse-occurs w l e = occurs_some f (to f u) (from f u) w l (has-reverse w e)
 
     pub mate-occurs : mate f u < length f → 1 ≤ occurrences f (to f u) (from f u)
     mate-occurs l = reverse-occurs (mate f u) l (mate-reverse l)
 
     pub occurs-mate : 1 ≤ occurrences f (to f u) (from f u) → mate f u < length f
     occurs-mate o =
-        let r = some-use f (to f u) (from f u) o in
+        let r = some_use f (to f u) (from f u) o in
         ⊎_elim (λ l. l)
         (λ l. absurd (eqb-false (edge f r.0) (reverse f u) (first-mate.before r.0 (omega (arith, r.1)))
-        (has-number f r.0 (to f u) (from f u) r.2 ∙ sym (reverse-self f u))))
+        (has-number f r.0 (to f u) (from f u) r.2 ∙ sym (reverse_self f u))))
         (below? (mate f u) (length f))
 
     -- where the reverse occurs once, whoever has it is the mate
@@ -75,19 +75,19 @@ module _ (f : List ℕ) (u : ℕ) where
             p.is,
           )
 
-      pub search-found : r < length f → edge f (get_or (order_list f) r 0) ≡ reverse f u → get_or (order_list f) r 0 ≡ mate f u
+      pub search_found : r < length f → edge f (get_or (order_list f) r 0) ≡ reverse f u → get_or (order_list f) r 0 ≡ mate f u
       unfolding key
-      search-found rl e =
+      search_found rl e =
           mate-first (get_or (order_list f) r 0) (order_below f r (omega (arith, order-length f))) e
           (λ k l q.
           let kl : k < length f = omega (arith, order_below f r (omega (arith, order-length f))) in
           let p = at_place k kl q in
           ⊎_elim (λ z. omega (arith, l, ap (λ (i : ℕ). get_or (order_list f) i 0) z, p.3))
-          (λ z. omega (arith, l, order-strict f h r p.0 (omega (arith, p.1)) (omega (arith, p.2, order-length f)), ap (key f) p.3, e, q))
+          (λ z. omega (arith, l, order_strict f h r p.0 (omega (arith, p.1)) (omega (arith, p.2, order-length f)), ap (key f) p.3, e, q))
           (same? r p.0))
 
-      pub search-none : ((l : r < length f) → edge f (get_or (order_list f) r 0) ≡ reverse f u → ⊥) → length f ≡ mate f u
-      search-none n =
+      pub search_none : ((l : r < length f) → edge f (get_or (order_list f) r 0) ≡ reverse f u → ⊥) → length f ≡ mate f u
+      search_none n =
           mate-none (λ k kl q.
           let p = at_place k kl q in
           let rl : r < length f = omega (arith, p.1, p.2) in

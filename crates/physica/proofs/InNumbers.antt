@@ -10,8 +10,8 @@ use Rattle.refusals.specs.declared.Refusal.{Refusal}
 use Rattle.refusals.specs.declared.Refusal.TheVariants.{Malformed, TooMany, OutOfLimits, NoSuchVertex, Flipped, Open, Degenerate, Inverted, TooThin, TooDeep, TooManyEdges, TooShort, NotFinite, OutsideDomain, TooManyRounds, WrongLength, WrongOrder, WrongMate, WrongVolume, WrongRow}
 use Rattle.refusals.specs.Numbers.{number_of}
 use Rattle.sheet.specs.Input.{SheetInput}
-use Rattle.sheet.specs.Bytes.{sheetLength}
-use Rattle.sheet.specs.Checker.{verdict_answer, checkSheet}
+use Rattle.sheet.specs.Bytes.{sheet_size}
+use Rattle.sheet.specs.Checker.{verdict_answer, check_sheet}
 use Rattle.sheet.specs.Promises.{NoCause, Right, Kept}
 use Rattle.sheet.specs.declared.Verdict.{Verdict}
 use Rattle.sheet.specs.declared.Verdict as verdicts
@@ -65,10 +65,10 @@ writes_lent {s} {q = q} {a = a} {m = m} h g = record {
   work = h.work;
   out = h.out;
   only = λ e. h.only m (zero-written a g e);
-  always = λ free. written-zero a (sheetLength s) g (h.always free);
+  always = λ free. written-zero a (sheet_size s) g (h.always free);
   kept = λ e.
       let b = zero-written a g e in
-      rw (same_size a m (sheetLength s) b (h.always (h.only m b))) (h.kept m b);
+      rw (same_size a m (sheet_size s) b (h.always (h.only m b))) (h.kept m b);
 }
 
 -- ---- the checker
@@ -79,7 +79,7 @@ zero-accepted (verdicts.TheVariants.Accepted k s) g e = rw g.out
 zero-accepted (verdicts.TheVariants.Refused q) g e = absurd (omega (arith, number-least q, g.number))
 
 pub checks_lent : (b : List ℕ) (a : Verdict) {r : ℕ} {n m vs : List ℕ}
-    → verdict_answer a ≡ checkSheet b → ((k s : ℕ) → a ≡ verdicts.TheVariants.Accepted k s → Right b k s)
+    → verdict_answer a ≡ check_sheet b → ((k s : ℕ) → a ≡ verdicts.TheVariants.Accepted k s → Right b k s)
     → GivesValues itself (verdict_answer a) r n m vs → ChecksLent b r n m vs
 checks_lent b a {m = m} h right g = record {
   answer = rw (← h) g;

@@ -8,7 +8,7 @@ use lib.Seq.{length-take-le}
 use Rattle.refusals.specs.declared.Cause.{Cause}
 use Rattle.refusals.specs.declared.Cause.TheVariants.{None, Refused}
 use Rattle.sheet.specs.Bytes.{trailer_length}
-use Rattle.sheet.specs.Checker.{rowsStart, openingCause, rowsPart}
+use Rattle.sheet.specs.Checker.{rows_start, opening_cause, rows_part}
 use Rattle.sheet_readers.proofs.Opening.{opened, no_rows, rows-from}
 
 module _ (b : List ℕ) where
@@ -16,17 +16,17 @@ module _ (b : List ℕ) where
   abbrev ending : ℕ → List ℕ
   ending n = take n (drop (length b - (trailer_length + n)) b)
 
-  by-cause : (c : Cause) → openingCause b ≡ c → ending (length (rowsPart b)) ≡ rowsPart b
+  by-cause : (c : Cause) → opening_cause b ≡ c → ending (length (rows_part b)) ≡ rows_part b
   by-cause (Refused r) e = ap (λ (p : List ℕ). ending (length p)) (sym (no_rows b r e)) ∙ no_rows b r e
   by-cause None e =
       let o = opened b e in
-      let s = rowsStart b in
+      let s = rows_start b in
       let t = length b - trailer_length in
       let within : t - s ≤ length b - s = omega arith in
-      let part : take (t - s) (drop s b) ≡ rowsPart b = rows-from b e s t refl refl in
-      let size : length (rowsPart b) ≡ t - s = sym (ap length part) ∙ length-take-le (t - s) (drop s b) (rw length-drop within) in
+      let part : take (t - s) (drop s b) ≡ rows_part b = rows-from b e s t refl refl in
+      let size : length (rows_part b) ≡ t - s = sym (ap length part) ∙ length-take-le (t - s) (drop s b) (rw length-drop within) in
       let start : length b - (trailer_length + (t - s)) ≡ s = omega (arith, o.whole, o.trailer) in
       ap ending size ∙ ap (λ (k : ℕ). take (t - s) (drop k b)) start ∙ part
 
-  pub rows-place : ending (length (rowsPart b)) ≡ rowsPart b
-  rows-place = by-cause (openingCause b) refl
+  pub rows-place : ending (length (rows_part b)) ≡ rows_part b
+  rows-place = by-cause (opening_cause b) refl

@@ -1,8 +1,8 @@
 // Sheets: writing, checking, reading their trailer, stations and rows, and their length.
 ghost use Rattle.std.specs.Prelude.{◌≡◌, ◌+◌, ◌-◌, length, take, drop};
 ghost use Rattle.sheet.specs.Bytes.{trailer_length};
-ghost use Rattle.sheet.specs.Checker.{rowsPart, rowPart};
-ghost use Rattle.sheet_readers.specs.Parts.{stationPart, sheetTrailer, length_of};
+ghost use Rattle.sheet.specs.Checker.{rows_part, row_part};
+ghost use Rattle.sheet_readers.specs.Parts.{station_part, sheet_trailer, length_of};
 ghost use Rattle.physica_lent.specs.Exported.{Gives};
 ghost use Rattle.physica_lent.specs.Sheets.{sheet_input, WritesLent, ChecksLent, numbers_given, row_after, coordinates_given, station_after, trailer_counts, trailer_numbers};
 
@@ -58,8 +58,8 @@ pub extern "C" fn physica_sheet_trailer(
     counts: &mut [u32; 4],
     numbers: &mut [f64; 7],
 ) -> u32
-    ensures counts { Gives trailer_counts (sheetTrailer sheet.now) result counts.old counts.new }
-    ensures numbers { Gives trailer_numbers (sheetTrailer sheet.now) result numbers.old numbers.new }
+    ensures counts { Gives trailer_counts (sheet_trailer sheet.now) result counts.old counts.new }
+    ensures numbers { Gives trailer_numbers (sheet_trailer sheet.now) result numbers.old numbers.new }
 {
     give_trailer(sheet_readers::sheet_trailer(sheet), counts, numbers)
 }
@@ -67,8 +67,8 @@ pub extern "C" fn physica_sheet_trailer(
 // The coordinates of station i, and 3; or 0 where there is none.
 #[unsafe(no_mangle)]
 pub extern "C" fn physica_sheet_station(sheet: &[u8], i: usize, out: &mut [f64; 3]) -> usize
-    ensures count { result ≡ coordinates_given (stationPart sheet.now i) }
-    ensures out { out.new ≡ station_after (stationPart sheet.now i) out.old }
+    ensures count { result ≡ coordinates_given (station_part sheet.now i) }
+    ensures out { out.new ≡ station_after (station_part sheet.now i) out.old }
 {
     let station = sheet_readers::sheet_station(sheet, i);
     if station.len() < STATION_LENGTH {
@@ -82,8 +82,8 @@ pub extern "C" fn physica_sheet_station(sheet: &[u8], i: usize, out: &mut [f64; 
 // How many bytes the rows take; they end where the trailer begins.
 #[unsafe(no_mangle)]
 pub extern "C" fn physica_sheet_rows(sheet: &[u8]) -> usize
-    ensures count { result ≡ length (rowsPart sheet.now) }
-    ensures place { take result (drop (length sheet.now - (trailer_length + result)) sheet.now) ≡ rowsPart sheet.now }
+    ensures count { result ≡ length (rows_part sheet.now) }
+    ensures place { take result (drop (length sheet.now - (trailer_length + result)) sheet.now) ≡ rows_part sheet.now }
 {
     let rows = sheet_readers::sheet_rows(sheet);
     rows.len()
@@ -92,8 +92,8 @@ pub extern "C" fn physica_sheet_rows(sheet: &[u8]) -> usize
 // The eight numbers that every kind's row begins with, of row i, and 8; or 0 where there is none.
 #[unsafe(no_mangle)]
 pub extern "C" fn physica_sheet_row(sheet: &[u8], i: usize, out: &mut [f64; PLAIN_WIDTH]) -> usize
-    ensures count { result ≡ numbers_given (rowPart sheet.now i) }
-    ensures out { out.new ≡ row_after (rowPart sheet.now i) out.old }
+    ensures count { result ≡ numbers_given (row_part sheet.now i) }
+    ensures out { out.new ≡ row_after (row_part sheet.now i) out.old }
 {
     let row = sheet_readers::sheet_row(sheet, i);
     if row.len() < PLAIN_BYTES {

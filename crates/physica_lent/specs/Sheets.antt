@@ -5,8 +5,8 @@ use Rattle.mesh.specs.Check.{work_after}
 use Rattle.sheet_layout.specs.LittleEndian.{unpack, doubles}
 use Rattle.sheet_rows.specs.Kinds.{plain_width}
 use Rattle.sheet.specs.Input.{SheetInput, input_of}
-use Rattle.sheet.specs.Writer.{writerCause, outAfter}
-use Rattle.sheet.specs.Checker.{checkSheet}
+use Rattle.sheet.specs.Writer.{writer_cause, out_after}
+use Rattle.sheet.specs.Checker.{check_sheet}
 use Rattle.sheet.specs.Promises.{NoCause, Right, Kept}
 use Rattle.writer.specs.Written.{write_sheet}
 use Rattle.sheet_readers.specs.declared.TrailerFields.{TrailerFields}
@@ -22,8 +22,8 @@ sheet_input kind v f m b stations = input_of kind v f (vector_of m) (vector_of b
 pub record WritesLent (s : SheetInput) (w o p q : List ℕ) (r n m : ℕ) (vs : List ℕ) : Type 0 where
   -- in all cases
   pub answer : GivesValues itself (write_sheet s (length w) (length o)) r n m vs
-  pub work : p ≡ work_after (writerCause s (length w) (length o)) s.faces w
-  pub out : q ≡ outAfter s (writerCause s (length w) (length o)) o
+  pub work : p ≡ work_after (writer_cause s (length w) (length o)) s.faces w
+  pub out : q ≡ out_after s (writer_cause s (length w) (length o)) o
   -- it returns 0 exactly where no cause of refusal holds
   pub only : r ≡ 0 → NoCause s (length w) (length o)
   pub always : NoCause s (length w) (length o) → r ≡ 0
@@ -35,7 +35,7 @@ pub record WritesLent (s : SheetInput) (w o p q : List ℕ) (r n m : ℕ) (vs : 
 -- what `physica_check_sheet` says of the sheet b: it returns r, and has set found, which was n, to m and the refusal's values to vs
 pub record ChecksLent (b : List ℕ) (r : ℕ) (n m vs : List ℕ) : Type 0 where
   -- in all cases
-  pub answer : GivesValues itself (checkSheet b) r n m vs
+  pub answer : GivesValues itself (check_sheet b) r n m vs
   -- where it returns 0 the sheet is right, with the kind and S that it found
   pub right : r ≡ 0 → Right b (get_or m 0 0) (get_or m 1 0)
 

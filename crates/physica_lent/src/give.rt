@@ -2,11 +2,11 @@
 ghost use Rattle.std.specs.Prelude.{◌≡◌};
 ghost use Rattle.refusals.specs.Numbers.{values_of};
 ghost use Rattle.newtonian.specs.Field.{answer_of};
-ghost use Rattle.anomaly.specs.Answers.{vectorAnswer, numberAnswer};
+ghost use Rattle.anomaly.specs.Answers.{vector_answer, number_answer};
 ghost use Rattle.mesh.specs.Check as check;
-ghost use Rattle.carlson.specs.Answers.{integralAnswer};
-ghost use Rattle.rings.specs.Answers.{completeAnswer, ringAnswer};
-ghost use Rattle.legendre.specs.Answers.{ruleAnswer};
+ghost use Rattle.carlson.specs.Answers.{integral_answer};
+ghost use Rattle.rings.specs.Answers.{complete_answer, ring_answer};
+ghost use Rattle.legendre.specs.Answers.{answer_of_rule};
 ghost use Rattle.writer.specs.Written.{written_answer};
 ghost use Rattle.sheet.specs.Checker.{verdict_answer};
 ghost use Rattle.sheet_readers.specs.Parts.{trailer_answer};
@@ -54,7 +54,7 @@ fn values_of(r: Refusal) -> [u32; 2]
 }
 
 pub fn give_integral(a: Integral, out: &mut f64) -> u32
-    ensures { Gives itself (integralAnswer a) result out.old out.new }
+    ensures { Gives itself (integral_answer a) result out.old out.new }
 {
     match a {
         Integral::Value(x) => {
@@ -66,7 +66,7 @@ pub fn give_integral(a: Integral, out: &mut f64) -> u32
 }
 
 pub fn give_number(a: NumberAnswer, out: &mut f64) -> u32
-    ensures { Gives itself (numberAnswer a) result out.old out.new }
+    ensures { Gives itself (number_answer a) result out.old out.new }
 {
     match a {
         NumberAnswer::Value(x) => {
@@ -78,7 +78,7 @@ pub fn give_number(a: NumberAnswer, out: &mut f64) -> u32
 }
 
 pub fn give_vector(a: VectorAnswer, out: &mut [f64; 3]) -> u32
-    ensures { Gives vector_numbers (vectorAnswer a) result out.old out.new }
+    ensures { Gives vector_numbers (vector_answer a) result out.old out.new }
 {
     match a {
         VectorAnswer::Value(v) => {
@@ -90,7 +90,7 @@ pub fn give_vector(a: VectorAnswer, out: &mut [f64; 3]) -> u32
 }
 
 pub fn give_complete(a: CompleteIntegrals, out: &mut [f64; 2]) -> u32
-    ensures { Gives complete_numbers (completeAnswer a) result out.old out.new }
+    ensures { Gives complete_numbers (complete_answer a) result out.old out.new }
 {
     match a {
         CompleteIntegrals::Values(c) => {
@@ -102,7 +102,7 @@ pub fn give_complete(a: CompleteIntegrals, out: &mut [f64; 2]) -> u32
 }
 
 pub fn give_ring(a: RingAnswer, out: &mut [f64; 3]) -> u32
-    ensures { Gives ring_numbers (ringAnswer a) result out.old out.new }
+    ensures { Gives ring_numbers (ring_answer a) result out.old out.new }
 {
     match a {
         RingAnswer::Value(r) => {
@@ -114,8 +114,8 @@ pub fn give_ring(a: RingAnswer, out: &mut [f64; 3]) -> u32
 }
 
 pub fn give_rule(rule: Rule, nodes: &mut [f64; 16], weights: &mut [f64; 16]) -> u32
-    ensures nodes { Gives nodes_of (ruleAnswer rule) result nodes.old nodes.new }
-    ensures weights { Gives weights_of (ruleAnswer rule) result weights.old weights.new }
+    ensures nodes { Gives nodes_of (answer_of_rule rule) result nodes.old nodes.new }
+    ensures weights { Gives weights_of (answer_of_rule rule) result weights.old weights.new }
 {
     let cause = rule.cause;
     match cause {

@@ -25,7 +25,7 @@ use Rattle.mesh.specs.CauseLaws.{none-count}
 use Rattle.mesh.specs.Check.{count_cause, out_of_limits, surface_cause, mesh_cause, solid_of, check_mesh, leaves_work, work_after}
 use Rattle.mesh_laws.specs.Laws.{checked, solid-volume, solid-refused, answer-refused, work-front}
 use Rattle.mesh_check.proofs.Answers.{not-counted}
-use Rattle.mesh_check.proofs.Work.{early-number, work-early}
+use Rattle.mesh_check.proofs.Work.{early_number, work_early}
 use Rattle.polyhedron.specs.Polyhedron.{station_out_of_limits, given_cause, polyhedron_cause, polyhedron_at, polyhedron}
 
 module _ (p : Vector) (v : List Float) (f w : List ℕ) where
@@ -60,13 +60,13 @@ module _ (p : Vector) (v : List Float) (f w : List ℕ) where
   in_turn None (Refused x) c r P f g h e = g e
   in_turn None None c r P f g h e = h e
 
-  given-leaves : (r : Refusal) → given_cause p v f (length w) ≡ Refused r → work_after (Refused r) f w ≡ w
+  given_leaves : (r : Refusal) → given_cause p v f (length w) ≡ Refused r → work_after (Refused r) f w ≡ w
   unfolding given_cause
-  given-leaves r e =
+  given_leaves r e =
       in_turn (count_cause v f (length w)) (out_of_limits v) (station_out_of_limits p) r (work_after (Refused r) f w ≡ w)
       (λ q. counts-leave r q)
-      (λ q. work-early f w r (early-number v f r q))
-      (λ q. work-early f w r (station-leaves (vector_within_limits p) r q))
+      (λ q. work_early f w r (early_number v f r q))
+      (λ q. work_early f w r (station-leaves (vector_within_limits p) r q))
       e
 
   -- 1, 2, 12 or 3
@@ -74,7 +74,7 @@ module _ (p : Vector) (v : List Float) (f w : List ℕ) where
   unfolding polyhedron_cause
   not-given r e =
       let q = refuses r (ap (λ (c : Cause). or_else c (surface_cause v f)) e) in
-      (q.0, sym (given-leaves r e) ∙ q.1)
+      (q.0, sym (given_leaves r e) ∙ q.1)
 
   module _ (h : given_cause p v f (length w) ≡ None) where
     pub counted : Counted v f (length w)

@@ -20,7 +20,7 @@ use Rattle.mesh_orders.specs.Edges.{max_vertices, max_faces}
 use Rattle.mesh_orders.specs.Order.{order_list}
 use Rattle.mesh.specs.Surface.{vertex_count, face_count}
 use Rattle.mesh.specs.Check.{malformed, too_many, too_short, out_of_limits, no_such_vertex, count_cause, order_cause, surface_cause}
-use Rattle.mesh.proofs.CauseNumbers.{Only, NumberWithin, only-limits, only-vertex, only-order}
+use Rattle.mesh.proofs.CauseNumbers.{Only, NumberWithin, only_limits, only-vertex, only-order}
 use Rattle.polyhedron_on_edge.specs.OnEdge.{edge_limit}
 use Rattle.polyhedron_tetrahedra.specs.Tetrahedra.{tetrahedra}
 use Rattle.polyhedron_edge_face_sums.specs.EdgeFaceSums.{sums_of, field_of, edge_face_sums}
@@ -77,19 +77,19 @@ unfolding InputCause
 input_within lo hi c h o r e = inl (omega (arith, (o r e).1))
 
 module _ (v : List Float) (f : List ℕ) where
-  input-counts : (n : ℕ) → InputCause (count_cause v f n)
+  input_counts : (n : ℕ) → InputCause (count_cause v f n)
   unfolding count_cause malformed too_many too_short
-  input-counts n =
+  input_counts n =
       input_else (malformed v f) (or_else (too_many v f) (too_short f n)) (input_unless (eqb (length v % 3) 0 && eqb (length f % 3) 0) Malformed (inl (omega arith)))
       (input_else (too_many v f) (too_short f n) (input_unless (leb (vertex_count v) max_vertices && leb (face_count f) max_faces) TooMany (inl (omega arith)))
       (input_unless (leb (length f) n) TooShort (inr refl)))
 
   input-numbers : InputCause (out_of_limits v)
-  input-numbers = input_within 3 3 (out_of_limits v) (omega arith) (only-limits v f)
+  input-numbers = input_within 3 3 (out_of_limits v) (omega arith) (only_limits v f)
 
-  input-surface : InputCause (surface_cause v f)
+  input_surface : InputCause (surface_cause v f)
   unfolding surface_cause
-  input-surface =
+  input_surface =
       input_else (no_such_vertex (vertex_count v) f) (order_cause v f (order_list f)) (input_within 4 4 (no_such_vertex (vertex_count v) f) (omega arith) (only-vertex v f))
       (input_within 5 8 (order_cause v f (order_list f)) (omega arith) (only-order v f (order_list f)))
 
@@ -97,14 +97,14 @@ module _ (v : List Float) (f : List ℕ) where
   unfolding polyhedron_cause given_cause InputCause
   cause-refused p n =
       input_else (given_cause p v f n) (surface_cause v f)
-      (input_else (count_cause v f n) (or_else (out_of_limits v) (station_out_of_limits p)) (input-counts n)
+      (input_else (count_cause v f n) (or_else (out_of_limits v) (station_out_of_limits p)) (input_counts n)
       (input_else (out_of_limits v) (station_out_of_limits p) input-numbers (input_unless (vector_within_limits p) OutOfLimits (inl (omega arith)))))
-      input-surface
+      input_surface
 
-  polyhedron-in-order : (c : Cause) (a : Answer Newtonian) (r : Refusal) → (c ≡ Refused r → InputRefusal r) → (a ≡ refused r → r ≡ TooManyEdges 0) → or_answer c a ≡ refused r → InputRefusal r ⊎ (r ≡ TooManyEdges 0)
-  polyhedron-in-order None a r h g e = inr (g e)
-  polyhedron-in-order (Refused x) a r h g e = let q : Refused x ≡ Refused r = cc in inl (h q)
+  polyhedron_in_order : (c : Cause) (a : Answer Newtonian) (r : Refusal) → (c ≡ Refused r → InputRefusal r) → (a ≡ refused r → r ≡ TooManyEdges 0) → or_answer c a ≡ refused r → InputRefusal r ⊎ (r ≡ TooManyEdges 0)
+  polyhedron_in_order None a r h g e = inr (g e)
+  polyhedron_in_order (Refused x) a r h g e = let q : Refused x ≡ Refused r = cc in inl (h q)
 
   pub polyhedron-refused : (p : Vector) (n : ℕ) (r : Refusal) → polyhedron p v f n ≡ refused r → InputRefusal r ⊎ (r ≡ TooManyEdges 0)
   unfolding polyhedron
-  polyhedron-refused p n r e = polyhedron-in-order (polyhedron_cause p v f n) (polyhedron_at 0 p v f) r (cause-refused p n r) (at-refused 0 p v f r) e
+  polyhedron-refused p n r e = polyhedron_in_order (polyhedron_cause p v f n) (polyhedron_at 0 p v f) r (cause-refused p n r) (at-refused 0 p v f r) e

@@ -30,18 +30,18 @@ under_far true x j a b e = refl
 under_far false x j a b e = e
 
 module _ (i j : ℕ) (p : Vector) (v : List Float) (f : List ℕ) where
-  under-sums : too_many_under j (edge_face_sums i p v f) ≡ edge_face_sums j p v f
+  under_sums : too_many_under j (edge_face_sums i p v f) ≡ edge_face_sums j p v f
   unfolding edge_face_sums
-  under-sums = under_near (leb (length (sums_of p v f).edges) edge_limit) (field_of (sums_of p v f)) i j
+  under_sums = under_near (leb (length (sums_of p v f).edges) edge_limit) (field_of (sums_of p v f)) i j
 
-  under-number : too_many_under j (polyhedron_at i p v f) ≡ polyhedron_at j p v f
+  under_number : too_many_under j (polyhedron_at i p v f) ≡ polyhedron_at j p v f
   unfolding polyhedron_at polyhedron_from
-  under-number =
+  under_number =
       let c = centroid v f in
-      under_far (is_far p c (radius c v f)) (tetrahedra p c v f) j (edge_face_sums i p v f) (edge_face_sums j p v f) under-sums
+      under_far (is_far p c (radius c v f)) (tetrahedra p c v f) j (edge_face_sums i p v f) (edge_face_sums j p v f) under_sums
 
-  pub polyhedronAt-value : (g : Newtonian) → polyhedron_at i p v f ≡ value g → polyhedron_at j p v f ≡ value g
-  polyhedronAt-value g e = sym under-number ∙ ap (too_many_under j) e
+  pub polyhedron_at-value : (g : Newtonian) → polyhedron_at i p v f ≡ value g → polyhedron_at j p v f ≡ value g
+  polyhedron_at-value g e = sym under_number ∙ ap (too_many_under j) e
 
-  pub polyhedronAt-too-many : (r : Refusal) → polyhedron_at i p v f ≡ refused r → polyhedron_at j p v f ≡ refused (TooManyEdges j)
-  polyhedronAt-too-many r e = sym under-number ∙ ap (too_many_under j) e
+  pub polyhedron_at-too_many : (r : Refusal) → polyhedron_at i p v f ≡ refused r → polyhedron_at j p v f ≡ refused (TooManyEdges j)
+  polyhedron_at-too_many r e = sym under_number ∙ ap (too_many_under j) e

@@ -18,16 +18,16 @@ module _ (keys : List (List ℕ)) (dyads : List (List Float)) (f : Newtonian) wh
   abbrev started : List Running
   started = replicate block_size (record { field = f; count = 0 })
 
-  pub blocked-start : Room keys dyads → Blocked keys dyads started
-  blocked-start r = record {
+  pub blocked_start : Room keys dyads → Blocked keys dyads started
+  blocked_start r = record {
     keyed = r.keyed;
     filled = r.filled;
     running = length-replicate {A = Running} block_size (record { field = f; count = 0 });
     sized = λ i h. rw (get_or-replicate block_size i (record { field = f; count = 0 }) no_run h) (r.sized i h);
   }
 
-  pub carries-start : f ≡ zero_field → (i : ℕ) → i < block_size → CarriesAt i no_faces keys dyads started
-  carries-start e i h = rw (get_or-replicate block_size i (record { field = f; count = 0 }) no_run h) (carries_none (get_or keys i []) (get_or dyads i []) f e)
+  pub carries_start : f ≡ zero_field → (i : ℕ) → i < block_size → CarriesAt i no_faces keys dyads started
+  carries_start e i h = rw (get_or-replicate block_size i (record { field = f; count = 0 }) no_run h) (carries_none (get_or keys i []) (get_or dyads i []) f e)
 
 pub room_again : (keys : List (List ℕ)) (dyads : List (List Float)) (runs : List Running) → Blocked keys dyads runs → Room keys dyads
 room_again keys dyads runs b = record { keyed = b.keyed; filled = b.filled; sized = λ i h. let z = b.sized i h in record { few = omega arith; keyed = z.keyed; filled = z.filled } }

@@ -33,8 +33,8 @@ abbrev SizedRun : List ℕ → List Float → Running → Type 0
 SizedRun k d r = Sized k d r.count
 
 module _ (keys : List (List ℕ)) (dyads : List (List Float)) (out : List Running) (j : ℕ) (k : List ℕ) (d : List Float) (r : Running) (b : Blocked keys dyads out) (l : j < block_size) where
-  pub blocked-set : Sized k d r.count → Blocked (set keys j k) (set dyads j d) (set out j r)
-  blocked-set z = record {
+  pub blocked_set : Sized k d r.count → Blocked (set keys j k) (set dyads j d) (set out j r)
+  blocked_set z = record {
     keyed = length-set keys j k ∙ b.keyed;
     filled = length-set dyads j d ∙ b.filled;
     running = length-set out j r ∙ b.running;

@@ -21,7 +21,7 @@ use Rattle.newtonian.specs.Vectors.{zero_field}
 use Rattle.newtonian.specs.declared.Hessian.{Hessian}
 use Rattle.newtonian.specs.declared.Newtonian.{Newtonian}
 use Rattle.newtonian.specs.declared.Vector.{Vector}
-use Rattle.polyhedron_on_edge.proofs.Adding.{held-few}
+use Rattle.polyhedron_on_edge.proofs.Adding.{held_few}
 use Rattle.polyhedron_on_edge.specs.Block.{HoldsEdges}
 use Rattle.polyhedron_on_edge.specs.OnEdge.{add_dyad, add_infinite, edge_key, edge_limit}
 use Rattle.refusals.specs.Answer.{refused, value}
@@ -29,18 +29,18 @@ use Rattle.refusals.specs.declared.Refusal.TheVariants.{TooManyEdges}
 
 module _ (n : Vector) (e : Side) (a b : Corner) (s : Sums) (keys : List ℕ) (dyads : List Float) where
   -- a finite logarithm: the field changes
-  pub side-added : finite (logarithm a b e.length) ≡ true → (r : Running)
+  pub side_added : finite (logarithm a b e.length) ≡ true → (r : Running)
       → r.field ≡ add_edge_terms n e.normal (logarithm a b e.length) a.r s.field → HoldsEdges s.edges keys dyads r.count
       → Carries (add_side n e a b s) keys dyads r
   unfolding add_side
-  side-added t r f h = simp t (record { field = f; edges = h })
+  side_added t r f h = simp t (record { field = f; edges = h })
 
   -- a logarithm that is not finite: the edges change
-  pub side-through : finite (logarithm a b e.length) ≡ false → (r : Running)
+  pub side_through : finite (logarithm a b e.length) ≡ false → (r : Running)
       → r.field ≡ s.field → HoldsEdges (add_dyad (edge_key e.from e.to) (dyad n e.normal) s.edges) keys dyads r.count
       → Carries (add_side n e a b s) keys dyads r
   unfolding add_side
-  side-through t r f h = simp t (record { field = f; edges = h })
+  side_through t r f h = simp t (record { field = f; edges = h })
 
 -- no faces
 pub carries_none : (keys : List ℕ) (dyads : List Float) (f : Newtonian) → f ≡ zero_field → Carries no_faces keys dyads (record { field = f; count = 0 })
@@ -57,12 +57,12 @@ module _ (i : ℕ) (p : Vector) (v : List Float) (f : List ℕ) (keys : List ℕ
       (λ m. absurd (omega (arith, c.edges.few m)))
       (below? edge_limit (length (sums_of p v f).edges))
 
-  pub not-too-many : r.count ≤ edge_limit → (t : Hessian) → t ≡ symmetric (add_infinite (sums_of p v f).edges r.field.hessian)
+  pub not-too_many : r.count ≤ edge_limit → (t : Hessian) → t ≡ symmetric (add_infinite (sums_of p v f).edges r.field.hessian)
       → value (record { potential = r.field.potential; gradient = r.field.gradient; hessian = t }) ≡ edge_face_sums i p v f
   unfolding edge_face_sums field_of
-  not-too-many l t q =
+  not-too_many l t q =
       let s = sums_of p v f in
-      simp (le-leb (length s.edges) edge_limit (held-few s.edges keys dyads r.count c.edges l), q, c.field)
+      simp (le-leb (length s.edges) edge_limit (held_few s.edges keys dyads r.count c.edges l), q, c.field)
 
 -- the n faces from the first on are the first n
 pub from_first : (p : Vector) (v : List Float) (f : List ℕ) (n : ℕ) (s : Sums) → with_faces p v f 0 n s ≡ Fold n (λ k. add_triangle p (triangle_of v f k)) s

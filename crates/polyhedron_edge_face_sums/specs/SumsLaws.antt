@@ -58,8 +58,8 @@ module _ (p a b n : Vector) (e : Side) (s : Sums) where
   abbrev d : Hessian
   d = dyad n e.normal
 
-  abbrev withSide : Bool → Sums
-  withSide c = cond c
+  abbrev with_side : Bool → Sums
+  with_side c = cond c
       (record { field = add_edge_terms n e.normal L (seen p a).r s.field; edges = s.edges })
       (record { field = s.field; edges = add_dyad k d s.edges })
 
@@ -67,7 +67,7 @@ module _ (p a b n : Vector) (e : Side) (s : Sums) where
   unfolding add_side
   side_different h = go (finite L)
     where
-      go : (c : Bool) → Different (withSide c).edges
+      go : (c : Bool) → Different (with_side c).edges
       go true = h
       go false = add_different k d s.edges h
 
@@ -75,7 +75,7 @@ module _ (p a b n : Vector) (e : Side) (s : Sums) where
   unfolding add_side
   side_kept j h = go (finite L) refl h
     where
-      go : (c : Bool) → finite L ≡ c → KeepsEdge (withSide c) j → KeepsEdge s j ⊎ SideNotFinite p a b e j
+      go : (c : Bool) → finite L ≡ c → KeepsEdge (with_side c) j → KeepsEdge s j ⊎ SideNotFinite p a b e j
       go true q l = inl l
       go false q l = ⊎_elim (λ r. inr (record { given = q; key = sym r })) (λ m. inl (omega (arith, add_other j k d s.edges m))) (same? j k)
 
@@ -83,7 +83,7 @@ module _ (p a b n : Vector) (e : Side) (s : Sums) where
   unfolding add_side
   kept_side j h = go (finite L) refl h
     where
-      go : (c : Bool) → finite L ≡ c → KeepsEdge s j ⊎ SideNotFinite p a b e j → KeepsEdge (withSide c) j
+      go : (c : Bool) → finite L ≡ c → KeepsEdge s j ⊎ SideNotFinite p a b e j → KeepsEdge (with_side c) j
       go true q (inl l) = l
       go true q (inr x) = absurd (true≢false (sym q ∙ x.given))
       go false q (inl l) = ⊎_elim (λ r. rw r (add-has k d s.edges)) (λ m. omega (arith, add_other j k d s.edges m)) (same? j k)
@@ -135,30 +135,30 @@ module _ (p : Vector) (t : Triangle) (s : Sums) where
 
 module _ (p : Vector) (v : List Float) (f : List ℕ) where
   -- the sums of the first m faces
-  abbrev sumsTo : ℕ → Sums
-  sumsTo m = Fold m (λ i. add_triangle p (triangle_of v f i)) no_faces
+  abbrev sums_to : ℕ → Sums
+  sums_to m = Fold m (λ i. add_triangle p (triangle_of v f i)) no_faces
 
-  to_different : (m : ℕ) → Different (sumsTo m).edges
+  to_different : (m : ℕ) → Different (sums_to m).edges
   unfolding Fold
   to_different zero = λ i. omega arith
-  to_different (suc m) = face_different p (triangle_of v f m) (sumsTo m) (to_different m)
+  to_different (suc m) = face_different p (triangle_of v f m) (sums_to m) (to_different m)
 
   pub edges_different : Different (sums_of p v f).edges
   unfolding sums_of
   edges_different = to_different (face_count f)
 
-  to-kept : (m j : ℕ) → KeepsEdge (sumsTo m) j → SomeNotFinite p v f m j
+  to-kept : (m j : ℕ) → KeepsEdge (sums_to m) j → SomeNotFinite p v f m j
   unfolding Fold
   to-kept zero j h = absurd (omega arith)
   to-kept (suc m) j h =
       ⊎_elim (λ l. let r = to-kept m j l in record { k = r.k; face = omega (arith, r.face); itself = r.itself }) (λ x. record { k = m; face = omega arith; itself = x })
-      (face-kept p (triangle_of v f m) (sumsTo m) j h)
+      (face-kept p (triangle_of v f m) (sums_to m) j h)
 
-  kept-to : (m j i : ℕ) → i < m → FaceNotFinite p (triangle_of v f i) j → KeepsEdge (sumsTo m) j
+  kept-to : (m j i : ℕ) → i < m → FaceNotFinite p (triangle_of v f i) j → KeepsEdge (sums_to m) j
   unfolding Fold
   kept-to zero j i l x = absurd (omega arith)
   kept-to (suc m) j i l x =
-      kept-face p (triangle_of v f m) (sumsTo m) j
+      kept-face p (triangle_of v f m) (sums_to m) j
       (⊎_elim (λ q. inr (subst (λ (r : ℕ). FaceNotFinite p (triangle_of v f r) j) q x)) (λ r. inl (kept-to m j i r x)) (eq-or-lt_of_le (le_of_suc-le-suc l)))
 
   pub kept-not_finite : (j : ℕ) → KeepsEdge (sums_of p v f) j → SomeNotFinite p v f (face_count f) j

@@ -21,7 +21,7 @@ use Rattle.polyhedron_faces.specs.Faces.{vector_at, matrix_at, Describes, Dyads}
 use Rattle.polyhedron_logarithms.specs.Sides.{next}
 use Rattle.polyhedron_logarithms.proofs.Terms.{next_low, next-high}
 use Rattle.polyhedron_sight.specs.Sight.{seen_at, Sight}
-use Rattle.polyhedron_eight_faces.specs.EightFaces.{add_whole, Clear, addSideAt, addFaceAt}
+use Rattle.polyhedron_eight_faces.specs.EightFaces.{add_whole, Clear, add_side_at, add_face_at}
 
 -- side i of face k, whose normal is n
 pub side_dyad_lem : {nx ny nz mx my mz : List Float} {ds df : List (List Float)} → Dyads nx ny nz mx my mz ds df
@@ -55,36 +55,36 @@ module _ (p : Vector) (t : ℕ → Triangle) {cx cy cz nx ny nz mx my mz e x y z
   a_is : (k : ℕ) → k < 8 → c k ≡ seen p (t k).a
   a_is k h = ap (seen p) (d.at_a k h)
 
-  b-is : (k : ℕ) → k < 8 → c (8 + k) ≡ seen p (t k).b
-  b-is k h = ap (seen p) (d.at_b k h)
+  b_is : (k : ℕ) → k < 8 → c (8 + k) ≡ seen p (t k).b
+  b_is k h = ap (seen p) (d.at_b k h)
 
   c_is : (k : ℕ) → k < 8 → c (16 + k) ≡ seen p (t k).c
   c_is k h = ap (seen p) (d.at_c k h)
 
-  log-ab : (k : ℕ) → k < 8 → lane L k ≡ logarithm (seen p (t k).a) (seen p (t k).b) (t k).ab.length
-  log-ab k h = s.log k (omega arith) ∙ log-same (a_is k h) (ap c (next_a k h) ∙ b-is k h) (d.on_ab k h).1
+  log_ab : (k : ℕ) → k < 8 → lane L k ≡ logarithm (seen p (t k).a) (seen p (t k).b) (t k).ab.length
+  log_ab k h = s.log k (omega arith) ∙ log-same (a_is k h) (ap c (next_a k h) ∙ b_is k h) (d.on_ab k h).1
 
-  log-bc : (k : ℕ) → k < 8 → lane L (8 + k) ≡ logarithm (seen p (t k).b) (seen p (t k).c) (t k).bc.length
-  log-bc k h = s.log (8 + k) (omega arith) ∙ log-same (b-is k h) (ap c (next_b k h) ∙ c_is k h) (d.on_bc k h).1
+  log_bc : (k : ℕ) → k < 8 → lane L (8 + k) ≡ logarithm (seen p (t k).b) (seen p (t k).c) (t k).bc.length
+  log_bc k h = s.log (8 + k) (omega arith) ∙ log-same (b_is k h) (ap c (next_b k h) ∙ c_is k h) (d.on_bc k h).1
 
-  log-ca : (k : ℕ) → k < 8 → lane L (16 + k) ≡ logarithm (seen p (t k).c) (seen p (t k).a) (t k).ca.length
-  log-ca k h = s.log (16 + k) (omega arith) ∙ log-same (c_is k h) (ap c (next_c k h) ∙ a_is k h) (d.on_ca k h).1
+  log_ca : (k : ℕ) → k < 8 → lane L (16 + k) ≡ logarithm (seen p (t k).c) (seen p (t k).a) (t k).ca.length
+  log_ca k h = s.log (16 + k) (omega arith) ∙ log-same (c_is k h) (ap c (next_c k h) ∙ a_is k h) (d.on_ca k h).1
 
   angle-is : (k : ℕ) → k < 8 → lane ω k ≡ solid_angle (t k).normal (seen p (t k).a) (seen p (t k).b) (seen p (t k).c)
-  angle-is k h = s.angle (t k).normal k h ∙ rw (a_is k h, b-is k h, c_is k h)
+  angle-is k h = s.angle (t k).normal k h ∙ rw (a_is k h, b_is k h, c_is k h)
 
   pub all_clear : (k : ℕ) → k < 8 → Clear p (t k)
   all_clear k h = record {
-    on_ab = ap finite (sym (log-ab k h)) ∙ s.log_finite k (omega arith);
-    on_bc = ap finite (sym (log-bc k h)) ∙ s.log_finite (8 + k) (omega arith);
-    on_ca = ap finite (sym (log-ca k h)) ∙ s.log_finite (16 + k) (omega arith);
+    on_ab = ap finite (sym (log_ab k h)) ∙ s.log_finite k (omega arith);
+    on_bc = ap finite (sym (log_bc k h)) ∙ s.log_finite (8 + k) (omega arith);
+    on_ca = ap finite (sym (log_ca k h)) ∙ s.log_finite (16 + k) (omega arith);
   }
 
   r_is : (k : ℕ) → k < 24 → {q : Corner} → c k ≡ q → vector_at x y z k ≡ q.r
   r_is k h e = s.offset k h ∙ ap (λ (i : Corner). i.r) e
 
-  pub face-is : (k : ℕ) → k < 8 → (f : Newtonian) → addFaceAt mx my mz x y z L nx ny nz ω k f ≡ add_whole p (t k) f
-  unfolding addSideAt addFaceAt add_whole
+  pub face-is : (k : ℕ) → k < 8 → (f : Newtonian) → add_face_at mx my mz x y z L nx ny nz ω k f ≡ add_whole p (t k) f
+  unfolding add_side_at add_face_at add_whole
   face-is k h f =
-      whole_parts f (d.normal k h) (r_is k (omega arith) (a_is k h)) (r_is (8 + k) (omega arith) (b-is k h)) (r_is (16 + k) (omega arith) (c_is k h))
-      (d.on_ab k h).0 (d.on_bc k h).0 (d.on_ca k h).0 (angle-is k h) (log-ab k h) (log-bc k h) (log-ca k h)
+      whole_parts f (d.normal k h) (r_is k (omega arith) (a_is k h)) (r_is (8 + k) (omega arith) (b_is k h)) (r_is (16 + k) (omega arith) (c_is k h))
+      (d.on_ab k h).0 (d.on_bc k h).0 (d.on_ca k h).0 (angle-is k h) (log_ab k h) (log_bc k h) (log_ca k h)

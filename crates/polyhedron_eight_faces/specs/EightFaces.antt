@@ -32,12 +32,12 @@ pub record Clear (p : Vector) (t : Triangle) : Type 0 where
 -- from lists that hold the normals of the sides, the offsets of the corners and the logarithms of the sides
 module _ (mx my mz x y z L : List Float) where
   -- the field f with side i of a face with the normal n
-  unfoldable pub addSideAt : Vector → ℕ → Newtonian → Newtonian
-  addSideAt n i f = add_edge_terms n (vector_at mx my mz i) (lane L i) (vector_at x y z i) f
+  unfoldable pub add_side_at : Vector → ℕ → Newtonian → Newtonian
+  add_side_at n i f = add_edge_terms n (vector_at mx my mz i) (lane L i) (vector_at x y z i) f
 
   -- and from the faces' normals and solid angles: the field f with face k
-  unfoldable pub addFaceAt : List Float → List Float → List Float → List Float → ℕ → Newtonian → Newtonian
-  addFaceAt nx ny nz ω k f =
+  unfoldable pub add_face_at : List Float → List Float → List Float → List Float → ℕ → Newtonian → Newtonian
+  add_face_at nx ny nz ω k f =
       let n = vector_at nx ny nz k in
       let face = add_face_terms n (dot n (vector_at x y z k)) (lane ω k) f in
-      addSideAt n (16 + k) (addSideAt n (8 + k) (addSideAt n k face))
+      add_side_at n (16 + k) (add_side_at n (8 + k) (add_side_at n k face))

@@ -6,7 +6,7 @@ ghost use Rattle.newtonian.specs.Fold.{Fold};
 ghost use Rattle.polyhedron_edge_terms.specs.EdgeTerms.{dyad};
 ghost use Rattle.polyhedron_edge_face_sums.specs.declared.Triangle.{Triangle};
 ghost use Rattle.polyhedron_faces.specs.Faces.{vector_at, matrix_at, Describes, Dyads};
-ghost use Rattle.polyhedron_eight_faces.specs.EightFaces.{add_whole, Clear, addSideAt, addFaceAt};
+ghost use Rattle.polyhedron_eight_faces.specs.EightFaces.{add_whole, Clear, add_side_at, add_face_at};
 
 use newtonian::{Newtonian, Vector};
 use polyhedron_faces::{matrix_of, vector_24};
@@ -26,7 +26,7 @@ fn add_side(
     f: Newtonian,
 ) -> Newtonian
     requires { (i < 24) × (matrix_at ds.now i ≡ dyad n (vector_at mx.now my.now mz.now i)) }
-    ensures { result ≡ addSideAt mx.now my.now mz.now x.now y.now z.now log.now n i f }
+    ensures { result ≡ add_side_at mx.now my.now mz.now x.now y.now z.now log.now n i f }
 {
     let l = log[i];
     let m = vector_24(mx, my, mz, i);
@@ -54,7 +54,7 @@ fn add_face(
 ) -> Newtonian
     requires k_bound { k < 8 }
     requires dyads { Dyads nx.now ny.now nz.now mx.now my.now mz.now ds.now df.now }
-    ensures { result ≡ addFaceAt mx.now my.now mz.now x.now y.now z.now log.now
+    ensures { result ≡ add_face_at mx.now my.now mz.now x.now y.now z.now log.now
         nx.now ny.now nz.now omega.now k f }
 {
     let w = omega[k];
@@ -86,7 +86,7 @@ fn add_faces(
 ) -> Newtonian
     requires count_bound { count ≤ 8 }
     requires dyads { Dyads nx.now ny.now nz.now mx.now my.now mz.now ds.now df.now }
-    ensures { result ≡ Fold count (addFaceAt mx.now my.now mz.now x.now y.now z.now log.now
+    ensures { result ≡ Fold count (add_face_at mx.now my.now mz.now x.now y.now z.now log.now
         nx.now ny.now nz.now omega.now) f }
 {
     let mut sums = f;

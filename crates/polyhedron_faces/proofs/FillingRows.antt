@@ -20,12 +20,12 @@ pub all_lanes : {g : ℕ → Float} {w : List Float} → FirstLanes 24 g w → L
 all_lanes f = record { size = f.size; at = f.at }
 
 module _ (s : ℕ) where
-  pub row-begins : {g : ℕ → Float} {w : List Float} → FirstLanes s g w → s ≤ 24 → Filled 24 g w (s + 0) w
-  row-begins {g} {w} f h = let e : s + 0 ≡ s = omega arith in rw e (record { size = f.size; upto = h; below = f.at; rest = λ j l. refl })
+  pub row_begins : {g : ℕ → Float} {w : List Float} → FirstLanes s g w → s ≤ 24 → Filled 24 g w (s + 0) w
+  row_begins {g} {w} f h = let e : s + 0 ≡ s = omega arith in rw e (record { size = f.size; upto = h; below = f.at; rest = λ j l. refl })
 
-  pub row-goes-on : (k : ℕ) {g : ℕ → Float} {w₀ w : List Float} {v : Float} → Filled 24 g w₀ (s + k) w → s + k < 24 → v ≡ g (s + k)
+  pub row_goes_on : (k : ℕ) {g : ℕ → Float} {w₀ w : List Float} {v : Float} → Filled 24 g w₀ (s + k) w → s + k < 24 → v ≡ g (s + k)
       → Filled 24 g w₀ (s + (k + 1)) (set w (s + k) v)
-  row-goes-on k f h e = let q : s + (k + 1) ≡ s + k + 1 = omega arith in rw q (one-filled f h e)
+  row_goes_on k f h e = let q : s + (k + 1) ≡ s + k + 1 = omega arith in rw q (one-filled f h e)
 
   pub row_ends : (k : ℕ) {g : ℕ → Float} {w₀ w : List Float} → Filled 24 g w₀ (s + k) w → 8 ≤ k → FirstLanes (s + 8) g w
   row_ends k f h = record { size = f.size; at = λ i l. f.below i (omega arith) }

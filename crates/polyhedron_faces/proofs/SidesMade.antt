@@ -28,16 +28,16 @@ unfolding unit norm
 unit_of v w l p q = rw (p, q)
 
 module _ (g : ℕ → Vector) {n : ℕ} {q l : List Float} (s : Lanes n (λ (i : ℕ). square (g i)) q) (r : Lanes n (λ (i : ℕ). Root (lane q i)) l) where
-  root-at : (i : ℕ) → i < n → lane l i ≡ Root (square (g i))
-  root-at i h = r.at i h ∙ ap Root (s.at i h)
+  root_at : (i : ℕ) → i < n → lane l i ≡ Root (square (g i))
+  root_at i h = r.at i h ∙ ap Root (s.at i h)
 
   norms : Lanes n (λ (i : ℕ). norm (g i)) l
   unfolding norm
-  norms = record { size = r.size; at = root-at }
+  norms = record { size = r.size; at = root_at }
 
   pub units : {x y z ux uy uz : List Float} → Vectors n g x y z → Vectors n (λ (i : ℕ). over (vector_at x y z i) (lane l i)) ux uy uz → Vectors n (λ (i : ℕ). unit (g i)) ux uy uz
   units {x} {y} {z} v u =
-      let e : (i : ℕ) → i < n → over (vector_at x y z i) (lane l i) ≡ unit (g i) = λ i h. unit_of (vector_at x y z i) (g i) (lane l i) (vector-at v i h) (root-at i h) in
+      let e : (i : ℕ) → i < n → over (vector_at x y z i) (lane l i) ≡ unit (g i) = λ i h. unit_of (vector_at x y z i) (g i) (lane l i) (vector-at v i h) (root_at i h) in
       record {
         on_x = record { size = u.on_x.size; at = λ i h. u.on_x.at i h ∙ ap (λ (a : Vector). a.x) (e i h) };
         on_y = record { size = u.on_y.size; at = λ i h. u.on_y.at i h ∙ ap (λ (a : Vector). a.y) (e i h) };
@@ -59,5 +59,5 @@ module _ (cx cy cz : List Float) (i j : ℕ) {a b : Vector} (p : (i + 8) % 24 �
   pub edge-is : difference b a ≡ edge_at cx cy cz i
   edge-is = ap₂ difference (t ∙ ap (vector_at cx cy cz) (sym p)) s
 
-  pub side-is : (nx ny nz : List Float) (k : ℕ) {n : Vector} → i % 8 ≡ k → n ≡ vector_at nx ny nz k → cross (difference b a) n ≡ raw_side cx cy cz nx ny nz i
-  side-is nx ny nz k q u = ap₂ cross edge-is (u ∙ ap (vector_at nx ny nz) (sym q))
+  pub side_is : (nx ny nz : List Float) (k : ℕ) {n : Vector} → i % 8 ≡ k → n ≡ vector_at nx ny nz k → cross (difference b a) n ≡ raw_side cx cy cz nx ny nz i
+  side_is nx ny nz k q u = ap₂ cross edge-is (u ∙ ap (vector_at nx ny nz) (sym q))

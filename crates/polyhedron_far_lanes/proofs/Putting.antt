@@ -28,20 +28,20 @@ module _ (k : ℕ) (v : Newtonian) (f : List Float) where
   size_of zero = refl
   size_of (suc n) = length-set (Fold n (put_number k v) f) (lane_of n k) (get_or (field_numbers v) n nan) ∙ size_of n
 
-  other-lanes : (n i : ℕ) → ((q : ℕ) → q < n → i ≡ lane_of q k → ⊥) → lane (Fold n (put_number k v) f) i ≡ lane f i
+  other_lanes : (n i : ℕ) → ((q : ℕ) → q < n → i ≡ lane_of q k → ⊥) → lane (Fold n (put_number k v) f) i ≡ lane f i
   unfolding Fold
-  other-lanes zero i h = refl
-  other-lanes (suc n) i h =
-      get_or-set_other (Fold n (put_number k v) f) (lane_of n k) i (get_or (field_numbers v) n nan) nan (h n (omega arith)) ∙ other-lanes n i (λ q l. h q (omega arith))
+  other_lanes zero i h = refl
+  other_lanes (suc n) i h =
+      get_or-set_other (Fold n (put_number k v) f) (lane_of n k) i (get_or (field_numbers v) n nan) nan (h n (omega arith)) ∙ other_lanes n i (λ q l. h q (omega arith))
 
-  its-lanes : k < 8 → length f ≡ 104 → (n : ℕ) → n ≤ field_size → (q : ℕ) → q < n → lane (Fold n (put_number k v) f) (lane_of q k) ≡ get_or (field_numbers v) q nan
+  its_lanes : k < 8 → length f ≡ 104 → (n : ℕ) → n ≤ field_size → (q : ℕ) → q < n → lane (Fold n (put_number k v) f) (lane_of q k) ≡ get_or (field_numbers v) q nan
   unfolding Fold
-  its-lanes lk e zero m q l = absurd (not-suc-le-zero l)
-  its-lanes lk e (suc n) m q l =
+  its_lanes lk e zero m q l = absurd (not-suc-le-zero l)
+  its_lanes lk e (suc n) m q l =
       let g = Fold n (put_number k v) f in
       ⊎_elim
       (λ t. rw t (get_or-set_same g (lane_of n k) (get_or (field_numbers v) n nan) nan (omega (arith, lane-is n k, size_of n, e, lk, m))))
-      (λ t. get_or-set_other g (lane_of n k) (lane_of q k) (get_or (field_numbers v) n nan) nan (λ z. t (omega (arith, lane-is n k, lane-is q k, z))) ∙ its-lanes lk e n (omega arith) q (omega (arith, l, t)))
+      (λ t. get_or-set_other g (lane_of n k) (lane_of q k) (get_or (field_numbers v) n nan) nan (λ z. t (omega (arith, lane-is n k, lane-is q k, z))) ∙ its_lanes lk e n (omega arith) q (omega (arith, l, t)))
       (same? q n)
 
   pub put-size : length (put k v f) ≡ length f
@@ -51,7 +51,7 @@ module _ (k : ℕ) (v : Newtonian) (f : List Float) where
   pub put-here : k < 8 → length f ≡ 104 → field_at (put k v f) k ≡ v
   unfolding put field_numbers
   put-here lk e =
-      let g : (q : ℕ) → q < field_size → lane (Fold field_size (put_number k v) f) (lane_of q k) ≡ get_or (field_numbers v) q nan = its-lanes lk e field_size (lit≤ tt) in
+      let g : (q : ℕ) → q < field_size → lane (Fold field_size (put_number k v) f) (lane_of q k) ≡ get_or (field_numbers v) q nan = its_lanes lk e field_size (lit≤ tt) in
       rw (
         g 0 (lit≤ tt),
         g 1 (lit≤ tt),
@@ -68,12 +68,12 @@ module _ (k : ℕ) (v : Newtonian) (f : List Float) where
         g 12 (lit≤ tt),
       )
 
-  pub put-there : (j : ℕ) → j < 8 → k < 8 → (j ≡ k → ⊥) → field_at (put k v f) j ≡ field_at f j
+  pub put_there : (j : ℕ) → j < 8 → k < 8 → (j ≡ k → ⊥) → field_at (put k v f) j ≡ field_at f j
   unfolding put
-  put-there j lj lk t =
+  put_there j lj lk t =
       let g : (p : ℕ) → lane (Fold field_size (put_number k v) f) (8 * p + j) ≡ lane f (8 * p + j) =
-      λ p. other-lanes field_size (8 * p + j) (λ q l z. t (omega (arith, lane-is q k, z, lj, lk))) in
-      let h : lane (Fold field_size (put_number k v) f) j ≡ lane f j = other-lanes field_size j (λ q l z. t (omega (arith, lane-is q k, z, lj, lk))) in
+      λ p. other_lanes field_size (8 * p + j) (λ q l z. t (omega (arith, lane-is q k, z, lj, lk))) in
+      let h : lane (Fold field_size (put_number k v) f) j ≡ lane f j = other_lanes field_size j (λ q l z. t (omega (arith, lane-is q k, z, lj, lk))) in
       rw (h, g 1, g 2, g 3, g 4, g 5, g 6, g 7, g 8, g 9, g 10, g 11, g 12)
 
 -- ---- a loop over the stations
@@ -92,8 +92,8 @@ one_field {g} {f₀} {f} k v u l e p =
     rw p
     (record {
       size = put-size k v f ∙ u.size;
-      below = λ j m. ⊎_elim (λ t. rw t (put-here k v f l u.size ∙ e)) (λ t. put-there k v f j (omega arith) l t ∙ u.below j (omega (arith, t, m))) (same? j k);
-      rest = λ j m n. put-there k v f j n l (λ t. omega arith) ∙ u.rest j (omega arith) n;
+      below = λ j m. ⊎_elim (λ t. rw t (put-here k v f l u.size ∙ e)) (λ t. put_there k v f j (omega arith) l t ∙ u.below j (omega (arith, t, m))) (same? j k);
+      rest = λ j m n. put_there k v f j n l (λ t. omega arith) ∙ u.rest j (omega arith) n;
     })
 
 pub all-fields : {g : ℕ → Newtonian} {f₀ f : List Float} {k : ℕ} → Upto g f₀ k f → 8 ≤ k → Fields g f

@@ -46,12 +46,12 @@ pub rows-kept : {px py pz : List Float} {u : Vector} {q q' : List Float} (o m : 
 rows-kept o m s h l = record { at = λ k lk. h (o + k) (omega arith) ∙ s.at k lk }
 
 module _ (px py pz x y z w f : List Float) (n : ℕ) {a b c : Vector} {f₁ f₂ f₃ : List Float} where
-  pub three-added : a ≡ point_at x y z n → b ≡ point_at x y z (n + 1) → c ≡ point_at x y z (n + 2)
+  pub three_added : a ≡ point_at x y z n → b ≡ point_at x y z (n + 1) → c ≡ point_at x y z (n + 2)
       → Fields (λ k. add_point (lane w n) (difference a (point_at px py pz k)) (field_at f k)) f₁
       → Fields (λ k. add_point (lane w (n + 1)) (difference b (point_at px py pz k)) (field_at f₁ k)) f₂
       → Fields (λ k. add_point (lane w (n + 2)) (difference c (point_at px py pz k)) (field_at f₂ k)) f₃
       → Fields (λ k. three_steps (point_step (point_at px py pz k) x y z w) n (field_at f k)) f₃
-  three-added ea eb ec l₁ l₂ l₃ = record {
+  three_added ea eb ec l₁ l₂ l₃ = record {
     size = l₃.size;
     at = λ k l.
         let p = point_at px py pz k in
@@ -68,11 +68,11 @@ three_turns t step a =
     ∙ ap (step (3 * t + 2)) (ap (λ (m : ℕ). Fold m step a) e₂ ∙ fold_more (3 * t + 1) step a ∙ ap (step (3 * t + 1)) (fold_more (3 * t) step a))
 
 module _ (h : ℕ → ℕ → Newtonian → Newtonian) (a : Newtonian) where
-  pub no-three : {f : List Float} → Fields (λ k. a) f → Fields (λ k. Fold (3 * 0) (h k) a) f
-  no-three b = record { size = b.size; at = λ k l. b.at k l ∙ sym (fold-none (h k) a) }
+  pub no_three : {f : List Float} → Fields (λ k. a) f → Fields (λ k. Fold (3 * 0) (h k) a) f
+  no_three b = record { size = b.size; at = λ k l. b.at k l ∙ sym (fold-none (h k) a) }
 
-  pub three-more : (t : ℕ) {f f' : List Float} → Fields (λ k. Fold (3 * t) (h k) a) f → Fields (λ k. three_steps (h k) (3 * t) (field_at f k)) f' → Fields (λ k. Fold (3 * (t + 1)) (h k) a) f'
-  three-more t b c = record { size = c.size; at = λ k l. c.at k l ∙ ap (three_steps (h k) (3 * t)) (b.at k l) ∙ sym (three_turns t (h k) a) }
+  pub three_more : (t : ℕ) {f f' : List Float} → Fields (λ k. Fold (3 * t) (h k) a) f → Fields (λ k. three_steps (h k) (3 * t) (field_at f k)) f' → Fields (λ k. Fold (3 * (t + 1)) (h k) a) f'
+  three_more t b c = record { size = c.size; at = λ k l. c.at k l ∙ ap (three_steps (h k) (3 * t)) (b.at k l) ∙ sym (three_turns t (h k) a) }
 
 module _ (places : List Vector) {px py pz : List Float} (at_x : Lanes 8 (λ k. (place_at places k).x) px) (at_y : Lanes 8 (λ k. (place_at places k).y) py) (at-z : Lanes 8 (λ k. (place_at places k).z) pz) where
   at_place : (k : ℕ) → k < 8 → point_at px py pz k ≡ place_at places k

@@ -17,7 +17,7 @@ use Rattle.newtonian.specs.Vectors.{difference, zero_field}
 use Rattle.newtonian.specs.Point.{add_point}
 use Rattle.newtonian.specs.declared.Vector.{Vector}
 use Rattle.newtonian.specs.declared.Newtonian.{Newtonian}
-use Rattle.polyhedron_tetrahedra.specs.Tetrahedra.{points, mapped_rule, tetrahedron_field, tetrahedronPoint, tetrahedronLine, tetrahedronLayer, mapped_node, mapped_weight, duffy, line_weight}
+use Rattle.polyhedron_tetrahedra.specs.Tetrahedra.{points, mapped_rule, tetrahedron_field, tetrahedron_point, tetrahedron_line, tetrahedron_layer, mapped_node, mapped_weight, duffy, line_weight}
 use Rattle.polyhedron_tetrahedra.specs.declared.Tetrahedron.{Tetrahedron}
 use Rattle.polyhedron_tetrahedra.proofs.Nodes.{rule_node, rule_weight}
 use Rattle.polyhedron_far_points.specs.Tetrahedral.{point_count, point_in, weight_in, Room, FirstPoints, point_step, points_field}
@@ -54,26 +54,26 @@ so_many n k e f = rw (← e) f
 
 -- what a turn of the loop over line m writes, at t
 module _ (a : Vector) (s : Tetrahedron) (nodes weights : List Float) (m t : ℕ) (lm : m < 36) (lt : t < points) (en : nodes ≡ mapped_rule.nodes) (ew : weights ≡ mapped_rule.weights) where
-  place-u : (6 * m + t) / 36 ≡ m / 6
-  place-u = omega arith
+  place_u : (6 * m + t) / 36 ≡ m / 6
+  place_u = omega arith
 
-  place-v : (6 * m + t) / 6 % 6 ≡ m % 6
-  place-v = omega arith
+  place_v : (6 * m + t) / 6 % 6 ≡ m % 6
+  place_v = omega arith
 
-  place-t : (6 * m + t) % 6 ≡ t
-  place-t = omega arith
+  place_t : (6 * m + t) % 6 ≡ t
+  place_t = omega arith
 
   pub point-is : duffy a s (lane nodes (m / 6)) (lane nodes (m % 6)) (lane nodes t) ≡ point_in a s (6 * m + t)
   unfolding point_in
-  point-is = rw (place-u, place-v, place-t, en, rule_node (m / 6) (omega arith), rule_node (m % 6) (omega arith), rule_node t lt)
+  point-is = rw (place_u, place_v, place_t, en, rule_node (m / 6) (omega arith), rule_node (m % 6) (omega arith), rule_node t lt)
 
   pub weight_is : line_weight s.vol6 (lane nodes (m / 6)) (lane nodes (m % 6)) (lane weights (m / 6)) (lane weights (m % 6)) ⊗ lane weights t ≡ weight_in s (6 * m + t)
   unfolding weight_in
   weight_is =
       rw (
-        place-u,
-        place-v,
-        place-t,
+        place_u,
+        place_v,
+        place_t,
         en,
         ew,
         rule_node (m / 6) (omega arith),
@@ -87,35 +87,35 @@ module _ (a : Vector) (s : Tetrahedron) (nodes weights : List Float) (m t : ℕ)
 
 -- point 6 (6 i + j) + t is at node i, j and t
 module _ (i j t : ℕ) (li : i < 6) (lj : j < 6) (lt : t < 6) where
-  at-u : ((i * 6 + j) * 6 + t) / 36 ≡ i
-  at-u = omega arith
+  at_u : ((i * 6 + j) * 6 + t) / 36 ≡ i
+  at_u = omega arith
 
-  at-v : ((i * 6 + j) * 6 + t) / 6 % 6 ≡ j
-  at-v = omega arith
+  at_v : ((i * 6 + j) * 6 + t) / 6 % 6 ≡ j
+  at_v = omega arith
 
-  at-t : ((i * 6 + j) * 6 + t) % 6 ≡ t
-  at-t = omega arith
+  at_t : ((i * 6 + j) * 6 + t) % 6 ≡ t
+  at_t = omega arith
 
 module _ (p a : Vector) (s : Tetrahedron) where
-  abbrev pub stepIn : ℕ → Newtonian → Newtonian
-  stepIn n = add_point (weight_in s n) (difference (point_in a s n) p)
+  abbrev pub step_in : ℕ → Newtonian → Newtonian
+  step_in n = add_point (weight_in s n) (difference (point_in a s n) p)
 
-  step-at : (i j t : ℕ) → i < 6 → j < 6 → t < 6 → (f : Newtonian)
-      → tetrahedronPoint p a s (mapped_node i) (mapped_node j) (line_weight s.vol6 (mapped_node i) (mapped_node j) (mapped_weight i) (mapped_weight j)) t f ≡ stepIn ((i * 6 + j) * 6 + t) f
+  step_at : (i j t : ℕ) → i < 6 → j < 6 → t < 6 → (f : Newtonian)
+      → tetrahedron_point p a s (mapped_node i) (mapped_node j) (line_weight s.vol6 (mapped_node i) (mapped_node j) (mapped_weight i) (mapped_weight j)) t f ≡ step_in ((i * 6 + j) * 6 + t) f
   unfolding point_in weight_in
-  step-at i j t li lj lt f = rw (at-u i j t li lj lt, at-v i j t li lj lt, at-t i j t li lj lt)
+  step_at i j t li lj lt f = rw (at_u i j t li lj lt, at_v i j t li lj lt, at_t i j t li lj lt)
 
-  pub field_of : tetrahedron_field p a s ≡ Fold point_count stepIn zero_field
+  pub field_of : tetrahedron_field p a s ≡ Fold point_count step_in zero_field
   unfolding tetrahedron_field
   field_of =
-      fold_same 6 (tetrahedronLayer p a s) (λ i. Fold 6 (λ j. Fold 6 (λ t. stepIn ((i * 6 + j) * 6 + t)))) zero_field
-      (λ i li f. fold_same 6 (tetrahedronLine p a s (mapped_node i) (mapped_weight i)) (λ j. Fold 6 (λ t. stepIn ((i * 6 + j) * 6 + t))) f
-      (λ j lj g. fold_same 6 (tetrahedronPoint p a s (mapped_node i) (mapped_node j) (line_weight s.vol6 (mapped_node i) (mapped_node j) (mapped_weight i) (mapped_weight j))) (λ t. stepIn ((i * 6 + j) * 6 + t)) g
-      (λ t lt h. step-at i j t li lj lt h)))
-      ∙ sym (fold_nested 6 6 (λ m. Fold 6 (λ t. stepIn (m * 6 + t))) zero_field)
-      ∙ sym (fold_nested 36 6 stepIn zero_field)
+      fold_same 6 (tetrahedron_layer p a s) (λ i. Fold 6 (λ j. Fold 6 (λ t. step_in ((i * 6 + j) * 6 + t)))) zero_field
+      (λ i li f. fold_same 6 (tetrahedron_line p a s (mapped_node i) (mapped_weight i)) (λ j. Fold 6 (λ t. step_in ((i * 6 + j) * 6 + t))) f
+      (λ j lj g. fold_same 6 (tetrahedron_point p a s (mapped_node i) (mapped_node j) (line_weight s.vol6 (mapped_node i) (mapped_node j) (mapped_weight i) (mapped_weight j))) (λ t. step_in ((i * 6 + j) * 6 + t)) g
+      (λ t lt h. step_at i j t li lj lt h)))
+      ∙ sym (fold_nested 6 6 (λ m. Fold 6 (λ t. step_in (m * 6 + t))) zero_field)
+      ∙ sym (fold_nested 36 6 step_in zero_field)
 
   pub points-field : {x y z w : List Float} → FirstPoints a s point_count x y z w → points_field p x y z w ≡ tetrahedron_field p a s
   unfolding points_field
   points-field {x} {y} {z} {w} f =
-      fold_same point_count (point_step p x y z w) stepIn zero_field (λ n l g. rw (f.point n l, f.weight n l)) ∙ sym field_of
+      fold_same point_count (point_step p x y z w) step_in zero_field (λ n l g. rw (f.point n l, f.weight n l)) ∙ sym field_of

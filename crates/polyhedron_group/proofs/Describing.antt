@@ -13,7 +13,7 @@ use Rattle.polyhedron_edge_face_sums.specs.declared.Triangle.{Triangle}
 use Rattle.lanes.specs.Lanes.{lane, Lanes}
 use Rattle.polyhedron_faces.specs.Faces.{Describes, vector_at}
 use Rattle.polyhedron_faces.specs.Parts.{Vectors, edge_at, raw_side}
-use Rattle.polyhedron_faces.proofs.SidesMade.{edge-is, side-is, vector-at}
+use Rattle.polyhedron_faces.proofs.SidesMade.{edge-is, side_is, vector-at}
 use Rattle.polyhedron_group.specs.Group.{face_in, raw_normal}
 
 module _ (v : List Float) (f : List ℕ) (first : ℕ) {cx cy cz : List Float}
@@ -27,9 +27,9 @@ module _ (v : List Float) (f : List ℕ) (first : ℕ) {cx cy cz : List Float}
   corner-at : (i j k : ℕ) → i < 24 → i % 8 ≡ k → i / 8 ≡ j → vector_at cx cy cz i ≡ C k j
   corner-at i j k h q r = vector-at cs i h ∙ ap₂ C q r
 
-  in-a : (k : ℕ) → k < 8 → vector_at cx cy cz k ≡ (T k).a
+  in_a : (k : ℕ) → k < 8 → vector_at cx cy cz k ≡ (T k).a
   unfolding triangle_of
-  in-a k h = corner-at k 0 k (omega arith) (omega arith) (omega arith)
+  in_a k h = corner-at k 0 k (omega arith) (omega arith) (omega arith)
 
   in_b : (k : ℕ) → k < 8 → vector_at cx cy cz (8 + k) ≡ (T k).b
   unfolding triangle_of
@@ -42,25 +42,25 @@ module _ (v : List Float) (f : List ℕ) (first : ℕ) {cx cy cz : List Float}
   module _ {nx ny nz : List Float} (ns : Vectors 8 (λ (k : ℕ). unit (raw_normal cx cy cz k)) nx ny nz) where
     normal-at : (k : ℕ) → k < 8 → vector_at nx ny nz k ≡ (T k).normal
     unfolding triangle_of normal
-    normal-at k h = vector-at ns k h ∙ ap unit (ap₂ cross (ap₂ difference (in_b k h) (in-a k h)) (ap₂ difference (in_c k h) (in-a k h)))
+    normal-at k h = vector-at ns k h ∙ ap unit (ap₂ cross (ap₂ difference (in_b k h) (in_a k h)) (ap₂ difference (in_c k h) (in_a k h)))
 
     module _ {mx my mz e : List Float} (ms : Vectors 24 (λ (i : ℕ). unit (raw_side cx cy cz nx ny nz i)) mx my mz) (es : Lanes 24 (λ (i : ℕ). norm (edge_at cx cy cz i)) e) where
       -- the side from a at i to b at j of the face in lane k
-      side-at : (i j k : ℕ) (a b : Vector) → k < 8 → i < 24 → (i + 8) % 24 ≡ j → i % 8 ≡ k → vector_at cx cy cz i ≡ a → vector_at cx cy cz j ≡ b
+      side_at : (i j k : ℕ) (a b : Vector) → k < 8 → i < 24 → (i + 8) % 24 ≡ j → i % 8 ≡ k → vector_at cx cy cz i ≡ a → vector_at cx cy cz j ≡ b
           → (vector_at mx my mz i ≡ unit (cross (difference b a) (T k).normal)) × (lane e i ≡ norm (difference b a))
-      side-at i j k a b l h p q s t = (
-        vector-at ms i h ∙ ap unit (sym (side-is cx cy cz i j p (sym s) (sym t) nx ny nz k q (sym (normal-at k l)))),
+      side_at i j k a b l h p q s t = (
+        vector-at ms i h ∙ ap unit (sym (side_is cx cy cz i j p (sym s) (sym t) nx ny nz k q (sym (normal-at k l)))),
         es.at i h ∙ ap norm (sym (edge-is cx cy cz i j p (sym s) (sym t))),
       )
 
       pub describes : Describes T cx cy cz nx ny nz mx my mz e
       unfolding triangle_of side_of
       describes = record {
-        at_a = in-a;
+        at_a = in_a;
         at_b = in_b;
         at_c = in_c;
         normal = normal-at;
-        on_ab = λ k h. side-at k (8 + k) k (T k).a (T k).b h (omega arith) (omega arith) (omega arith) (in-a k h) (in_b k h);
-        on_bc = λ k h. side-at (8 + k) (16 + k) k (T k).b (T k).c h (omega arith) (omega arith) (omega arith) (in_b k h) (in_c k h);
-        on_ca = λ k h. side-at (16 + k) k k (T k).c (T k).a h (omega arith) (omega arith) (omega arith) (in_c k h) (in-a k h);
+        on_ab = λ k h. side_at k (8 + k) k (T k).a (T k).b h (omega arith) (omega arith) (omega arith) (in_a k h) (in_b k h);
+        on_bc = λ k h. side_at (8 + k) (16 + k) k (T k).b (T k).c h (omega arith) (omega arith) (omega arith) (in_b k h) (in_c k h);
+        on_ca = λ k h. side_at (16 + k) k k (T k).c (T k).a h (omega arith) (omega arith) (omega arith) (in_c k h) (in_a k h);
       }

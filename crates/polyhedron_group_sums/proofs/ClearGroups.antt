@@ -23,13 +23,13 @@ module _ (p : Vector) (v : List Float) (f : List ℕ) (first n : ℕ) where
   t k = triangle_of v f (face_in first (face_count f) k)
 
   -- as far as there are faces, those in the lanes are those from first on
-  with-lanes : first + n ≤ face_count f → (s : Sums) → with_faces p v f first n s ≡ Fold n (λ k. add_triangle p (t k)) s
-  with-lanes l s = fold_same n (λ k. add_triangle p (triangle_of v f (first + k))) (λ k. add_triangle p (t k)) s
+  with_lanes : first + n ≤ face_count f → (s : Sums) → with_faces p v f first n s ≡ Fold n (λ k. add_triangle p (t k)) s
+  with_lanes l s = fold_same n (λ k. add_triangle p (triangle_of v f (first + k))) (λ k. add_triangle p (t k)) s
       (λ k h a. ap (λ (i : ℕ). add_triangle p (triangle_of v f i) a) (sym (within first (face_count f) k (omega arith))))
 
-  pub carries-clear : first + n ≤ face_count f → n ≤ 8 → (keys : List ℕ) (dyads : List Float) (run : Running) (g : Newtonian)
+  pub carries_clear : first + n ≤ face_count f → n ≤ 8 → (keys : List ℕ) (dyads : List Float) (run : Running) (g : Newtonian)
       → (g ≡ Fold n (λ k. add_whole p (t k)) run.field) × ((k : ℕ) → k < 8 → Clear p (t k))
       → (s : Sums) → Carries s keys dyads run → Carries (with_faces p v f first n s) keys dyads (record { field = g; count = run.count })
-  carries-clear l m keys dyads run g w s h =
-      rw (with-lanes l s ∙ clear_fold p t n s (λ k b. w.1 k (omega arith)))
+  carries_clear l m keys dyads run g w s h =
+      rw (with_lanes l s ∙ clear_fold p t n s (λ k b. w.1 k (omega arith)))
       (record { field = w.0 ∙ ap (Fold n (λ k. add_whole p (t k))) h.field; edges = h.edges })

@@ -20,8 +20,8 @@ module _ (x y z l : List Float) where
   corner_at k = record { r = vector_at x y z k; l = lane l k }
 
   -- of side k, whose length stands in e
-  abbrev pub ratioAt : List Float → ℕ → Float
-  ratioAt e k = ratio (corner_at k) (corner_at (next k)) (lane e k)
+  abbrev pub ratio_at : List Float → ℕ → Float
+  ratio_at e k = ratio (corner_at k) (corner_at (next k)) (lane e k)
 
   abbrev pub logarithm_at : List Float → ℕ → Float
   logarithm_at e k = logarithm (corner_at k) (corner_at (next k)) (lane e k)

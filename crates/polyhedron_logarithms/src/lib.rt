@@ -5,7 +5,7 @@
 ghost use Rattle.std.specs.Prelude.{◌≡◌, true, ℕ, ◌<◌, length};
 ghost use Rattle.std.specs.Float.Ieee.Scale.{finite};
 ghost use Rattle.lanes.specs.Lanes.{lane, Lanes};
-ghost use Rattle.polyhedron_logarithms.specs.Sides.{corner_at, ratio, ratioAt, logarithm_at};
+ghost use Rattle.polyhedron_logarithms.specs.Sides.{corner_at, ratio, ratio_at, logarithm_at};
 
 use newtonian::{cross, dot};
 use polyhedron_edge_terms::Corner;
@@ -44,7 +44,7 @@ fn ratios_24(
     out: &mut [f64; 24],
 )
     requires { length out.old ≡ 24 }
-    ensures { Lanes 24 (ratioAt x.now y.now z.now l.now e.now) out.new }
+    ensures { Lanes 24 (ratio_at x.now y.now z.now l.now e.now) out.new }
 {
     for k in 0..16usize {
         let d = e[k];

@@ -51,38 +51,38 @@ edge_ext p q = cc
 -- ---- what the count says
 
 module _ (es : List Edge) (keys : List ℕ) (dyads : List Float) (n : ℕ) (h : HoldsEdges es keys dyads n) where
-  pub held-few : n ≤ edge_limit → length es ≤ edge_limit
-  held-few l = ⊎_elim (λ p. absurd (omega (arith, h.many p))) (λ p. p) (below? edge_limit (length es))
+  pub held_few : n ≤ edge_limit → length es ≤ edge_limit
+  held_few l = ⊎_elim (λ p. absurd (omega (arith, h.many p))) (λ p. p) (below? edge_limit (length es))
 
-  pub held-count : n ≤ edge_limit → n ≡ length es
-  held-count l = h.few (held-few l)
+  pub held_count : n ≤ edge_limit → n ≡ length es
+  held_count l = h.few (held_few l)
 
-  pub held-key : n ≤ edge_limit → (i : ℕ) → i < n → get_or keys i 0 ≡ (get_or es i no_edge).key
-  held-key l i p = ap (λ (e : Edge). e.key) (h.entries (held-few l) i (omega (arith, held-count l)))
+  pub held_key : n ≤ edge_limit → (i : ℕ) → i < n → get_or keys i 0 ≡ (get_or es i no_edge).key
+  held_key l i p = ap (λ (e : Edge). e.key) (h.entries (held_few l) i (omega (arith, held_count l)))
 
-  pub held-dyad : n ≤ edge_limit → (i : ℕ) → i < n → dyad_in dyads i ≡ (get_or es i no_edge).dyad
-  held-dyad l i p = ap (λ (e : Edge). e.dyad) (h.entries (held-few l) i (omega (arith, held-count l)))
+  pub held_dyad : n ≤ edge_limit → (i : ℕ) → i < n → dyad_in dyads i ≡ (get_or es i no_edge).dyad
+  held_dyad l i p = ap (λ (e : Edge). e.dyad) (h.entries (held_few l) i (omega (arith, held_count l)))
 
   -- ---- the four answers
 
   module _ (k : ℕ) (d : Hessian) where
-    pub was-full : edge_limit < n → HoldsEdges (add_dyad k d es) keys dyads n
-    was-full l = record {
+    pub was_full : edge_limit < n → HoldsEdges (add_dyad k d es) keys dyads n
+    was_full l = record {
       many = λ _. l;
       few = λ p. absurd (omega (arith, add_grows k d es, h.few (omega (arith, add_grows k d es))));
       entries = λ p. absurd (omega (arith, add_grows k d es, h.few (omega (arith, add_grows k d es))));
     }
 
     none-met : n ≤ edge_limit → ((j : ℕ) → j < n → get_or keys j 0 ≡ k → ⊥) → (j : ℕ) → j < length es → (get_or es j no_edge).key ≡ k → ⊥
-    none-met l none j p e = none j (omega (arith, held-count l)) (held-key l j (omega (arith, held-count l)) ∙ e)
+    none-met l none j p e = none j (omega (arith, held_count l)) (held_key l j (omega (arith, held_count l)) ∙ e)
 
     module _ (l : n ≤ edge_limit) (r : ℕ) (f : IsFirst (has_key k keys) n r) (s : length dyads ≡ edge_limit * 9) where
       pub is_found : r < n → (dyads' : List Float) → dyads' ≡ stored_dyad r (hessian_numbers (add_matrices (dyad_in dyads r) d)) dyads → HoldsEdges (add_dyad k d es) keys dyads' n
       is_found p dyads' q =
-          let c = held-count l in
+          let c = held_count l in
           let sum = add_matrices (dyad_in dyads r) d in
           let new : Edge = record { key = (get_or es r no_edge).key; dyad = add_matrices (get_or es r no_edge).dyad d } in
-          let a = add_found k d es r (omega arith) (sym (held-key l r p) ∙ eqb-true (get_or keys r 0) k (f.here p)) (λ j m e. eqb-false (get_or keys j 0) k (f.before j m) (held-key l j (omega arith) ∙ e)) in
+          let a = add_found k d es r (omega arith) (sym (held_key l r p) ∙ eqb-true (get_or keys r 0) k (f.here p)) (λ j m e. eqb-false (get_or keys j 0) k (f.before j m) (held_key l j (omega arith) ∙ e)) in
           let len : length (add_dyad k d es) ≡ length es = ap length a ∙ length-set es r new in
           record {
             many = λ m. absurd (omega arith);
@@ -91,28 +91,28 @@ module _ (es : List Edge) (keys : List ℕ) (dyads : List Float) (n : ℕ) (h : 
                 ⊎_elim
                 (λ e. rw (a, q) (
                 subst (λ (j : ℕ). edge_in keys (stored_dyad r (hessian_numbers sum) dyads) j ≡ get_or (set es r new) j no_edge) (sym e) (
-                edge_ext (held-key l r p) (dyad-stored r sum dyads (omega arith) ∙ ap (λ (x : Hessian). add_matrices x d) (held-dyad l r p))
+                edge_ext (held_key l r p) (dyad-stored r sum dyads (omega arith) ∙ ap (λ (x : Hessian). add_matrices x d) (held_dyad l r p))
                 ∙ sym (get_or-set_same es r new no_edge (omega arith)))))
                 (λ ne. rw (a, q) (
-                edge_ext (held-key l i (omega arith)) (dyad-other r (hessian_numbers sum) dyads i ne ∙ held-dyad l i (omega arith))
+                edge_ext (held_key l i (omega arith)) (dyad-other r (hessian_numbers sum) dyads i ne ∙ held_dyad l i (omega arith))
                 ∙ sym (get_or-set_other es r i new no_edge ne)))
                 (same? i r);
           }
 
-      pub is-past : r ≡ n → n ≡ edge_limit → HoldsEdges (add_dyad k d es) keys dyads (n + 1)
-      is-past p m =
+      pub is_past : r ≡ n → n ≡ edge_limit → HoldsEdges (add_dyad k d es) keys dyads (n + 1)
+      is_past p m =
           let a = add_new k d es (none-met l (λ j o. eqb-false (get_or keys j 0) k (f.before j (omega arith)))) in
           let len : length (add_dyad k d es) ≡ length es + 1 = ap length a ∙ length-append es (record { key = k; dyad = d } ∷ []) in
-          let c = held-count l in
+          let c = held_count l in
           record { many = λ _. omega arith; few = λ o. absurd (omega arith); entries = λ o. absurd (omega arith) }
 
-      pub is-new : r ≡ n → n < edge_limit → length keys ≡ edge_limit → (dyads' : List Float) → dyads' ≡ stored_dyad n (hessian_numbers d) dyads
+      pub is_new : r ≡ n → n < edge_limit → length keys ≡ edge_limit → (dyads' : List Float) → dyads' ≡ stored_dyad n (hessian_numbers d) dyads
           → HoldsEdges (add_dyad k d es) (set keys n k) dyads' (n + 1)
-      is-new p m z dyads' q =
+      is_new p m z dyads' q =
           let new : Edge = record { key = k; dyad = d } in
           let a = add_new k d es (none-met l (λ j o. eqb-false (get_or keys j 0) k (f.before j (omega arith)))) in
           let len : length (add_dyad k d es) ≡ length es + 1 = ap length a ∙ length-append es (new ∷ []) in
-          let c = held-count l in
+          let c = held_count l in
           record {
             many = λ o. omega arith;
             few = λ _. omega arith;
@@ -123,19 +123,19 @@ module _ (es : List Edge) (keys : List ℕ) (dyads : List Float) (n : ℕ) (h : 
                 edge_ext (get_or-set_same keys n k 0 (omega arith)) (dyad-stored n d dyads (omega arith))
                 ∙ sym (get_or_at es new [] no_edge n (sym c)))))
                 (λ ne. rw (a, q) (
-                edge_ext (get_or-set_other keys n i k 0 ne ∙ held-key l i (omega arith)) (dyad-other n (hessian_numbers d) dyads i ne ∙ held-dyad l i (omega arith))
+                edge_ext (get_or-set_other keys n i k 0 ne ∙ held_key l i (omega arith)) (dyad-other n (hessian_numbers d) dyads i ne ∙ held_dyad l i (omega arith))
                 ∙ sym (get_or-append es (new ∷ []) no_edge i (omega arith))))
                 (same? i n);
           }
 
   -- ---- the loop of `add_infinite`
 
-  pub infinite-more : n ≤ edge_limit → (i : ℕ) → i < n → (t : Hessian) → add_infinite (drop (i + 1) es) (infinite_entries t (dyad_in dyads i)) ≡ add_infinite (drop i es) t
+  pub infinite_more : n ≤ edge_limit → (i : ℕ) → i < n → (t : Hessian) → add_infinite (drop (i + 1) es) (infinite_entries t (dyad_in dyads i)) ≡ add_infinite (drop i es) t
   unfolding add_infinite
-  infinite-more l i p t =
-      let c : i < length es = omega (arith, held-count l) in
-      rw (add-one, held-dyad l i p, drop-cons es i no_edge)
+  infinite_more l i p t =
+      let c : i < length es = omega (arith, held_count l) in
+      rw (add-one, held_dyad l i p, drop-cons es i no_edge)
 
-  pub infinite-end : n ≤ edge_limit → (t : Hessian) → add_infinite (drop n es) t ≡ t
+  pub infinite_end : n ≤ edge_limit → (t : Hessian) → add_infinite (drop n es) t ≡ t
   unfolding add_infinite
-  infinite-end l t = rw (held-count l, drop-length)
+  infinite_end l t = rw (held_count l, drop-length)

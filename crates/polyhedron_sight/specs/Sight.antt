@@ -44,11 +44,11 @@ denominator a b c = a.l ⊗ b.l ⊗ c.l ⊕ a.l ⊗ dot b.r c.r ⊕ b.l ⊗ dot 
 
 module _ (x y z l : List Float) where
   -- of face k
-  abbrev pub tripleAt : ℕ → Float
-  tripleAt k = triple (corner_at x y z l k) (corner_at x y z l (8 + k)) (corner_at x y z l (16 + k))
+  abbrev pub triple_at : ℕ → Float
+  triple_at k = triple (corner_at x y z l k) (corner_at x y z l (8 + k)) (corner_at x y z l (16 + k))
 
-  abbrev pub denominatorAt : ℕ → Float
-  denominatorAt k = denominator (corner_at x y z l k) (corner_at x y z l (8 + k)) (corner_at x y z l (16 + k))
+  abbrev pub denominator_at : ℕ → Float
+  denominator_at k = denominator (corner_at x y z l k) (corner_at x y z l (8 + k)) (corner_at x y z l (16 + k))
 
   abbrev pub angle_at : (ℕ → Vector) → ℕ → Float
   angle_at n k = solid_angle (n k) (corner_at x y z l k) (corner_at x y z l (8 + k)) (corner_at x y z l (16 + k))

@@ -5,7 +5,7 @@
 ghost use Rattle.std.specs.Prelude.{◌≡◌, true, ℕ, length};
 ghost use Rattle.newtonian.specs.declared.Vector.{Vector};
 ghost use Rattle.lanes.specs.Lanes.{Lanes};
-ghost use Rattle.polyhedron_sight.specs.Sight.{Corners, seen_at, triple, denominator, tripleAt, denominatorAt, angle_at, Sight};
+ghost use Rattle.polyhedron_sight.specs.Sight.{Corners, seen_at, triple, denominator, triple_at, denominator_at, angle_at, Sight};
 
 use newtonian::{Vector, cross, difference, dot};
 use polyhedron_edge_terms::Corner;
@@ -64,8 +64,8 @@ fn quotients_8(
     c: &mut [f64; 8],
 )
     requires { (length s.old ≡ 8) × (length c.old ≡ 8) }
-    ensures lanes { Lanes 8 (tripleAt x.now y.now z.now l.now) s.new }
-    ensures lanes_2 { Lanes 8 (denominatorAt x.now y.now z.now l.now) c.new }
+    ensures lanes { Lanes 8 (triple_at x.now y.now z.now l.now) s.new }
+    ensures lanes_2 { Lanes 8 (denominator_at x.now y.now z.now l.now) c.new }
 {
     for k in 0..8usize {
         let a = corner_at(x, y, z, l, k);

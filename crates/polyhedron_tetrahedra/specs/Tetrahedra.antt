@@ -71,19 +71,19 @@ line_weight vol6 u v wu wv = vol6 ⊗ u ⊗ u ⊗ v ⊗ wu ⊗ wv
 
 module _ (p a : Vector) (s : Tetrahedron) where
   -- adds the point of the line at u and v that is node k along t; w is the line's weight
-  abbrev pub tetrahedronPoint : Float → Float → Float → ℕ → Newtonian → Newtonian
-  tetrahedronPoint u v w k = add_point (w ⊗ mapped_weight k) (difference (duffy a s u v (mapped_node k)) p)
+  abbrev pub tetrahedron_point : Float → Float → Float → ℕ → Newtonian → Newtonian
+  tetrahedron_point u v w k = add_point (w ⊗ mapped_weight k) (difference (duffy a s u v (mapped_node k)) p)
 
   -- adds the line of points at u that is node j along v
-  abbrev pub tetrahedronLine : Float → Float → ℕ → Newtonian → Newtonian
-  tetrahedronLine u wu j = Fold points (tetrahedronPoint u (mapped_node j) (line_weight s.vol6 u (mapped_node j) wu (mapped_weight j)))
+  abbrev pub tetrahedron_line : Float → Float → ℕ → Newtonian → Newtonian
+  tetrahedron_line u wu j = Fold points (tetrahedron_point u (mapped_node j) (line_weight s.vol6 u (mapped_node j) wu (mapped_weight j)))
 
   -- adds the layer of lines that is node i along u
-  abbrev pub tetrahedronLayer : ℕ → Newtonian → Newtonian
-  tetrahedronLayer i = Fold points (tetrahedronLine (mapped_node i) (mapped_weight i))
+  abbrev pub tetrahedron_layer : ℕ → Newtonian → Newtonian
+  tetrahedron_layer i = Fold points (tetrahedron_line (mapped_node i) (mapped_weight i))
 
 unfoldable pub tetrahedron_field : Vector → Vector → Tetrahedron → Newtonian
-tetrahedron_field p a s = Fold points (tetrahedronLayer p a s) zero_field
+tetrahedron_field p a s = Fold points (tetrahedron_layer p a s) zero_field
 
 -- ---- the faces
 

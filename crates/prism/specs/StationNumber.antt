@@ -40,10 +40,10 @@ under_pieces rule i j (suc n) p lo hi =
     (λ u l. under_join j (pieces rule i n p lo u) (pieces rule i n p l hi) ∙ ap₂ join (under_pieces rule i j n p lo u) (under_pieces rule i j n p l hi))
 
 module _ (rule : AxisRule) (i j : ℕ) (p lo hi : Vector) where
-  pub prismAt-value : (g : Newtonian) → prism_at rule i p lo hi ≡ value g → prism_at rule j p lo hi ≡ value g
+  pub prism_at-value : (g : Newtonian) → prism_at rule i p lo hi ≡ value g → prism_at rule j p lo hi ≡ value g
   unfolding prism_at
-  prismAt-value g e = sym (under_pieces rule i j max_bisections p lo hi) ∙ ap (too_deep_under j) e
+  prism_at-value g e = sym (under_pieces rule i j max_bisections p lo hi) ∙ ap (too_deep_under j) e
 
-  pub prismAt-too-deep : (r : Refusal) → prism_at rule i p lo hi ≡ refused r → prism_at rule j p lo hi ≡ refused (TooDeep j)
+  pub prism_at_too_deep : (r : Refusal) → prism_at rule i p lo hi ≡ refused r → prism_at rule j p lo hi ≡ refused (TooDeep j)
   unfolding prism_at
-  prismAt-too-deep r e = sym (under_pieces rule i j max_bisections p lo hi) ∙ ap (too_deep_under j) e
+  prism_at_too_deep r e = sym (under_pieces rule i j max_bisections p lo hi) ∙ ap (too_deep_under j) e

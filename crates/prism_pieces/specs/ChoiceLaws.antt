@@ -96,8 +96,8 @@ module _ (x : Float) (number : is_nan x ≡ false) where
   not-above : (n : ℕ) → Under x n ≡ not (le x (of_int binary64 (pos n)))
   not-above n = lt_not_le (of_int binary64 (pos n)) x (whole-number n) number
 
-  under-less : (m n : ℕ) → m ≤ n → Under x n ≡ true → Under x m ≡ true
-  under-less m n l e = not-above m ∙ go (le x (of_int binary64 (pos m))) refl
+  under_less : (m n : ℕ) → m ≤ n → Under x n ≡ true → Under x m ≡ true
+  under_less m n l e = not-above m ∙ go (le x (of_int binary64 (pos m))) refl
     where
       go : (c : Bool) → le x (of_int binary64 (pos m)) ≡ c → not c ≡ true
       go true q = absurd (false≢true (sym (not-above n ∙ ap not (float_le_trans x (of_int binary64 (pos m)) (of_int binary64 (pos n)) q (in_order m n l))) ∙ e))
@@ -109,7 +109,7 @@ module _ (x : Float) (number : is_nan x ≡ false) where
       go : (c : Bool) → Under x (k + 1) ≡ c → CountBelow x (suc k) (cond c (n + 1) n)
       go true e =
           let q : n ≡ k + 1 =
-          ⊎_elim (λ l. absurd (false≢true (sym (h.2 (omega arith)) ∙ under-less n (k + 1) (omega arith) e))) (λ l. omega (arith, h.1)) (less? n (k + 1)) in
+          ⊎_elim (λ l. absurd (false≢true (sym (h.2 (omega arith)) ∙ under_less n (k + 1) (omega arith) e))) (λ l. omega (arith, h.1)) (less? n (k + 1)) in
           let r : n + 1 - 1 ≡ k + 1 = omega arith in
           (omega arith, omega arith, (λ l. absurd (omega arith)), (λ l. ap (Under x) r ∙ e))
       go false e = (h.0, omega (arith, h.1), (λ l. ⊎_elim (λ m. h.2 (omega arith)) (λ m. let r : n ≡ k + 1 = omega (arith, h.1) in ap (Under x) r ∙ e) (less? n (k + 1))), h.3)
@@ -132,7 +132,7 @@ module _ (x : Float) (number : is_nan x ≡ false) where
 
   not-less : (m n : ℕ) → KeptCeiling x m → KeptCeiling x n → m < n → ⊥
   not-less m n p q l =
-      false≢true (sym (not-above m ∙ ap not (p.above (omega (arith, q.greatest)))) ∙ under-less m (n - 1) (omega arith) (q.below (omega (arith, p.least))))
+      false≢true (sym (not-above m ∙ ap not (p.above (omega (arith, q.greatest)))) ∙ under_less m (n - 1) (omega arith) (q.below (omega (arith, p.least))))
 
   pub kept-ceiling : (n : ℕ) → KeptCeiling x n → n ≡ ceiling x
   kept-ceiling n h =
@@ -180,40 +180,40 @@ module _ (h : Vector) (n : AllNumbers h) where
   shorter : (a b : Axis) → le (along a h) (along b h) ≡ false → lt (along b h) (along a h) ≡ true
   shorter a b e = lt_not_le (along b h) (along a h) (n b) (n a) ∙ ap not e
 
-  last-chosen : (p q r : Bool) → le (along X h) (along Y h) ≡ p → le (along Y h) (along Z h) ≡ q → le (along X h) (along Z h) ≡ r
+  last_chosen : (p q r : Bool) → le (along X h) (along Y h) ≡ p → le (along Y h) (along Z h) ≡ q → le (along X h) (along Z h) ≡ r
       → Chosen LastOfEquals h (cond p (cond q Z Y) (cond r Z X))
-  last-chosen true true r e f g = record {
+  last_chosen true true r e f g = record {
     longest = each_axis (λ b. le (along b h) (along Z h) ≡ true) (float_le_trans (along X h) (along Y h) (along Z h) e f) f (self Z);
     decided = each_axis (λ b. 2 < axis_number b → lt (along b h) (along Z h) ≡ true) (λ l. absurd (omega arith)) (λ l. absurd (omega arith)) (λ l. absurd (omega arith));
   }
-  last-chosen true false r e f g = record {
+  last_chosen true false r e f g = record {
     longest = each_axis (λ b. le (along b h) (along Y h) ≡ true) e (self Y) (lt-le (along Z h) (along Y h) (shorter Y Z f));
     decided = each_axis (λ b. 1 < axis_number b → lt (along b h) (along Y h) ≡ true) (λ l. absurd (omega arith)) (λ l. absurd (omega arith)) (λ l. shorter Y Z f);
   }
-  last-chosen false q true e f g = record {
+  last_chosen false q true e f g = record {
     longest =
         each_axis (λ b. le (along b h) (along Z h) ≡ true) g
         (float_le_trans (along Y h) (along X h) (along Z h) (lt-le (along Y h) (along X h) (shorter X Y e)) g) (self Z);
     decided = each_axis (λ b. 2 < axis_number b → lt (along b h) (along Z h) ≡ true) (λ l. absurd (omega arith)) (λ l. absurd (omega arith)) (λ l. absurd (omega arith));
   }
-  last-chosen false q false e f g = record {
+  last_chosen false q false e f g = record {
     longest = each_axis (λ b. le (along b h) (along X h) ≡ true) (self X) (lt-le (along Y h) (along X h) (shorter X Y e)) (lt-le (along Z h) (along X h) (shorter X Z g));
     decided = each_axis (λ b. 0 < axis_number b → lt (along b h) (along X h) ≡ true) (λ l. absurd (omega arith)) (λ l. shorter X Y e) (λ l. shorter X Z g);
   }
 
-  pub longest-chosen : (rule : AxisRule) → Chosen rule h (longest rule h)
+  pub longest_chosen : (rule : AxisRule) → Chosen rule h (longest rule h)
   unfolding longest last_longest along
-  longest-chosen LastOfEquals = last-chosen (le h.x h.y) (le h.y h.z) (le h.x h.z) refl refl refl
+  longest_chosen LastOfEquals = last_chosen (le h.x h.y) (le h.y h.z) (le h.x h.z) refl refl refl
 
   -- a later axis that is as long is taken instead
-  not-later : (a b : Axis) → Chosen LastOfEquals h a → Chosen LastOfEquals h b → axis_number a < axis_number b → ⊥
-  not-later a b p q l =
+  not_later : (a b : Axis) → Chosen LastOfEquals h a → Chosen LastOfEquals h b → axis_number a < axis_number b → ⊥
+  not_later a b p q l =
       false≢true (sym (lt_not_le (along b h) (along a h) (n b) (n a) ∙ ap not (q.longest a)) ∙ p.decided b l)
 
-  one-chosen : (rule : AxisRule) (a b : Axis) → Chosen rule h a → Chosen rule h b → a ≡ b
-  one-chosen LastOfEquals a b p q =
-      ⊎_elim (λ l. absurd (not-later a b p q l))
-      (λ l. ⊎_elim (λ m. absurd (not-later b a q p m)) (λ m. same_axis a b (omega arith)) (less? (axis_number b) (axis_number a))) (less? (axis_number a) (axis_number b))
+  one_chosen : (rule : AxisRule) (a b : Axis) → Chosen rule h a → Chosen rule h b → a ≡ b
+  one_chosen LastOfEquals a b p q =
+      ⊎_elim (λ l. absurd (not_later a b p q l))
+      (λ l. ⊎_elim (λ m. absurd (not_later b a q p m)) (λ m. same_axis a b (omega arith)) (less? (axis_number b) (axis_number a))) (less? (axis_number a) (axis_number b))
 
-  pub chosen-longest : (rule : AxisRule) (a : Axis) → Chosen rule h a → a ≡ longest rule h
-  chosen-longest rule a p = one-chosen rule a (longest rule h) p (longest-chosen rule)
+  pub chosen_longest : (rule : AxisRule) (a : Axis) → Chosen rule h a → a ≡ longest rule h
+  chosen_longest rule a p = one_chosen rule a (longest rule h) p (longest_chosen rule)

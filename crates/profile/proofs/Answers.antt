@@ -17,15 +17,15 @@ use Rattle.mesh_orders.specs.Order.{order_list}
 use Rattle.mesh_orders.specs.OrderLaws.{order-length}
 use Rattle.mesh.specs.declared.Solid.{Solid}
 use Rattle.mesh.specs.Accepted.{Counted}
-use Rattle.mesh.specs.CauseLaws.{none-malformed, none-many, none-short}
+use Rattle.mesh.specs.CauseLaws.{none-malformed, none-many, none_short}
 use Rattle.mesh.specs.Check.{surface_cause, solid_of, work_after}
 use Rattle.mesh.specs.Check as mesh
 use Rattle.mesh.specs.Surface.{Body, volume}
 use Rattle.mesh_laws.specs.Laws.{checked, solid-volume, solid-refused, work-front}
 use Rattle.profile_records.specs.Records.{Done}
 use Rattle.profile.specs.InputLaws.{none-input, only-input}
-use Rattle.profile.specs.FilledLaws.{fields-as-they-were, refused-input, done}
-use Rattle.profile.specs.WorkLaws.{work-untouched, work-by-surface}
+use Rattle.profile.specs.FilledLaws.{fields_as_they_were, refused-input, done}
+use Rattle.profile.specs.WorkLaws.{work_untouched, work-by_surface}
 use Rattle.profile.specs.Profile.{station_count, field_at, malformed, too_many, too_short, out_of_limits, given_cause, input_cause, profile_cause, fields_after}
 
 -- four causes, of which the first three are tried together
@@ -52,12 +52,12 @@ module _ (v : List Float) (f : List ℕ) (st : List Float) (w : List ℕ) (l : L
   refuses : (r : Refusal) → input_cause v f st (length w) (length l) ≡ Refused r → (w' : List ℕ) → w' ≡ work_after first-cause f w → Owed (Refused r) w' l
   refuses r e w' u =
       let q = refused-input v f st (length w) (length l) r e in
-      (sym q, (u, sym (ap (λ (c : Cause). fields_after c v f st l) q ∙ fields-as-they-were v f st r l (only-input v f st (length w) (length l) r e))))
+      (sym q, (u, sym (ap (λ (c : Cause). fields_after c v f st l) q ∙ fields_as_they_were v f st r l (only-input v f st (length w) (length l) r e))))
 
   -- 1, 2, 12 or 3
   pub not-given : (r : Refusal) → given_cause v f st (length w) (length l) ≡ Refused r → Owed (Refused r) w l
   unfolding input_cause
-  not-given r e = refuses r (ap (λ (c : Cause). or_else c (surface_cause v f)) e) w (sym (work-untouched v f st (length w) (length l) w r e))
+  not-given r e = refuses r (ap (λ (c : Cause). or_else c (surface_cause v f)) e) w (sym (work_untouched v f st (length w) (length l) w r e))
 
   module _ (h : given_cause v f st (length w) (length l) ≡ None) where
     to-surface : input_cause v f st (length w) (length l) ≡ surface_cause v f
@@ -72,11 +72,11 @@ module _ (v : List Float) (f : List ℕ) (st : List Float) (w : List ℕ) (l : L
         let c = both (too_short f st (length w) (length l)) (out_of_limits v st) b.1 in
         let m = none-malformed v f (both (mesh.malformed v f) _ a.0).0 in
         let n = none-many v f (both (mesh.too_many v f) _ b.0).0 in
-        record { coordinates = m.0; corners = m.1; vertices = n.0; faces = n.1; room = none-short v f (length w) (both (mesh.too_short f (length w)) _ c.0).0 }
+        record { coordinates = m.0; corners = m.1; vertices = n.0; faces = n.1; room = none_short v f (length w) (both (mesh.too_short f (length w)) _ c.0).0 }
 
     module _ (w' : List ℕ) (e : w' ≡ work_after (surface_cause v f) f w) where
       owed-work : w' ≡ work_after first-cause f w
-      owed-work = e ∙ sym (work-by-surface v f st (length w) (length l) w h)
+      owed-work = e ∙ sym (work-by_surface v f st (length w) (length l) w h)
 
       -- 4 to 8
       pub not-accepted : (r : Refusal) → solid_of (surface_cause v f) (volume v f) ≡ Solid.Refused r → Owed (Refused r) w' l

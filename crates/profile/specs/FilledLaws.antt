@@ -21,7 +21,7 @@ use Rattle.profile_records.specs.Records as stations
 use Rattle.profile.specs.Profile.{station_count, field_at, stations_cause, input_cause, profile_cause, filled, fields_after}
 use Rattle.profile.specs.Promises.{InputRight}
 use Rattle.profile.specs.InputLaws.{none-input, only-input}
-use Rattle.profile.specs.StationLaws.{own-number, stations-refused, filled-agrees}
+use Rattle.profile.specs.StationLaws.{own-number, stations-refused, filled_agrees}
 
 -- 11 is none of 1 to 8 and 12
 pub not_input : (i : ℕ) → InputRefusal (TooManyEdges i) → ⊥
@@ -36,30 +36,30 @@ none_filled r s h =
 module _ (v : List Float) (f : List ℕ) (st : List Float) where
   -- ---- by parts
 
-  pub fields-as-they-were : (r : Refusal) (l : List Float) → InputRefusal r → fields_after (Refused r) v f st l ≡ l
+  pub fields_as_they_were : (r : Refusal) (l : List Float) → InputRefusal r → fields_after (Refused r) v f st l ≡ l
   unfolding fields_after records
-  fields-as-they-were r l h = rw (none_filled r (station_count st) h)
+  fields_as_they_were r l h = rw (none_filled r (station_count st) h)
 
   module _ (w o : ℕ) where
     pub refused-input : (r : Refusal) → input_cause v f st w o ≡ Refused r → profile_cause v f st w o ≡ Refused r
     unfolding profile_cause
     refused-input r e = rw e
 
-    pub past-input : input_cause v f st w o ≡ None → profile_cause v f st w o ≡ stations_cause v f st
+    pub past_input : input_cause v f st w o ≡ None → profile_cause v f st w o ≡ stations_cause v f st
     unfolding profile_cause
-    past-input e = rw e
+    past_input e = rw e
 
-    pub fields-of-stations : (l : List Float) → input_cause v f st w o ≡ None
+    pub fields_of_stations : (l : List Float) → input_cause v f st w o ≡ None
         → fields_after (profile_cause v f st w o) v f st l ≡ stations.fields_after (field_at v f st) (station_count st) l
     unfolding fields_after stations.fields_after
-    fields-of-stations l e =
-        ap (λ (n : ℕ). records (field_at v f st) n ++ drop (field_size * n) l) (ap (λ (c : Cause). filled c (station_count st)) (past-input e) ∙ filled-agrees v f st)
+    fields_of_stations l e =
+        ap (λ (n : ℕ). records (field_at v f st) n ++ drop (field_size * n) l) (ap (λ (c : Cause). filled c (station_count st)) (past_input e) ∙ filled_agrees v f st)
 
     -- a call over the stations that is done has the cause and the list of fields of the profile
     pub done : (l m : List Float) (c : Cause) → input_cause v f st w o ≡ None → Done (field_at v f st) (station_count st) l c m
         → (c ≡ profile_cause v f st w o) × (m ≡ fields_after (profile_cause v f st w o) v f st l)
     unfolding stations_cause
-    done l m c e d = (d.cause ∙ sym (past-input e), d.fields ∙ sym (fields-of-stations l e))
+    done l m c e d = (d.cause ∙ sym (past_input e), d.fields ∙ sym (fields_of_stations l e))
 
     -- ---- the records that are filled
 

@@ -16,11 +16,11 @@ use Rattle.newtonian.specs.Vectors.{vector_within_limits, field_size}
 use Rattle.mesh_orders.specs.Edges.{max_stations}
 use Rattle.mesh_orders.specs.Order.{order_list}
 use Rattle.mesh.specs.Accepted.{Counted}
-use Rattle.mesh.specs.CauseLaws.{is_body, none-malformed, malformed-none, none-many, many-none, none-short, short_none, none-limits, limits-none, count_none}
+use Rattle.mesh.specs.CauseLaws.{is_body, none-malformed, malformed-none, none-many, many-none, none_short, short_none, none_limits, limits_none, count_none}
 use Rattle.mesh.specs.Check.{no_such_vertex, order_cause, surface_cause}
 use Rattle.mesh.specs.Check as mesh
 use Rattle.mesh.specs.Surface.{vertex_count}
-use Rattle.mesh.proofs.CauseNumbers.{Only, NumberWithin, only-unless, only-else, only-malformed, only-many, only-limits, only-vertex, only-order}
+use Rattle.mesh.proofs.CauseNumbers.{Only, NumberWithin, only-unless, only_else, only-malformed, only-many, only_limits, only-vertex, only-order}
 use Rattle.mesh_laws.specs.ClosedLaws.{closed_pairs, pairs_closed}
 use Rattle.mesh_laws.specs.Laws.{checked, checks}
 use Rattle.mesh_laws.specs.Refused.{NumbersWithin}
@@ -28,7 +28,7 @@ use Rattle.polyhedron.specs.Polyhedron.{polyhedron_at, polyhedron_cause, polyhed
 use Rattle.polyhedron.specs.Polyhedron as single
 use Rattle.polyhedron.specs.PolyhedronLaws.{InputRefusal}
 use Rattle.profile.specs.Profile.{station_count, station_at, malformed, too_many, too_short, out_of_limits, given_cause, input_cause}
-use Rattle.profile.specs.Promises.{singleCall, InputRight}
+use Rattle.profile.specs.Promises.{single_call, InputRight}
 
 -- refused by a number up to 8
 of_number : (lo hi : ℕ) (c : Cause) → hi ≤ 8 → Only (NumberWithin lo hi) c → Only InputRefusal c
@@ -65,12 +65,12 @@ module _ (v : List Float) (f : List ℕ) (st : List Float) (w : ℕ) where
         let m = none-malformed v f p.0 in
         let n = none-many v f q.0 in
         record {
-          counted = record { coordinates = m.0; corners = m.1; vertices = n.0; faces = n.1; room = none-short v f w r.0 };
+          counted = record { coordinates = m.0; corners = m.1; vertices = n.0; faces = n.1; room = none_short v f w r.0 };
           triples = eqb-true (length st % 3) 0 (holds (eqb (length st % 3) 0) Malformed p.1);
           stations = leb-true (station_count st) max_stations (holds (leb (station_count st) max_stations) TooMany q.1);
           fields = leb-true (field_size * station_count st) o (holds (leb (field_size * station_count st) o) TooShort r.1);
-          vertex-numbers = none-limits v f x.0;
-          station-numbers = none-limits st f x.1;
+          vertex-numbers = none_limits v f x.0;
+          station-numbers = none_limits st f x.1;
         }
 
     pub none-input : input_cause v f st w o ≡ None → InputRight v f st w o
@@ -102,8 +102,8 @@ module _ (v : List Float) (f : List ℕ) (st : List Float) (w : ℕ) where
       counted : Counted v f w
       counted = record { coordinates = h.coordinates; corners = h.corners; vertices = h.vertices; faces = h.faces; room = h.work }
 
-      no-surface : surface_cause v f ≡ None
-      no-surface =
+      no_surface : surface_cause v f ≡ None
+      no_surface =
           checks v f (record {
             body = is_body v f w counted h.inside;
             closed = pairs_closed f (record { once = h.once; back = h.back });
@@ -121,58 +121,58 @@ module _ (v : List Float) (f : List ℕ) (st : List Float) (w : ℕ) where
             le-leb (station_count st) max_stations h.stations,
             short_none v f w h.work,
             le-leb (field_size * station_count st) o h.fields,
-            limits-none v f h.vertex-numbers,
-            limits-none st f h.station-numbers,
-            no-surface,
+            limits_none v f h.vertex-numbers,
+            limits_none st f h.station-numbers,
+            no_surface,
           )
 
       -- ---- the single call
 
-      single-none : (i : ℕ) → i < station_count st → polyhedron_cause (station_at st i) v f w ≡ None
+      single_none : (i : ℕ) → i < station_count st → polyhedron_cause (station_at st i) v f w ≡ None
       unfolding polyhedron_cause single.given_cause
-      single-none i l = rw (count_none v f w counted, limits-none v f h.vertex-numbers, station-within st i h.station-numbers l, no-surface)
+      single_none i l = rw (count_none v f w counted, limits_none v f h.vertex-numbers, station-within st i h.station-numbers l, no_surface)
 
-      pub single-call : (i : ℕ) → i < station_count st → singleCall v f st w i ≡ polyhedron_at 0 (station_at st i) v f
+      pub single_call_lem : (i : ℕ) → i < station_count st → single_call v f st w i ≡ polyhedron_at 0 (station_at st i) v f
       unfolding polyhedron
-      single-call i l = ap (λ (c : Cause). or_answer c (polyhedron_at 0 (station_at st i) v f)) (single-none i l)
+      single_call_lem i l = ap (λ (c : Cause). or_answer c (polyhedron_at 0 (station_at st i) v f)) (single_none i l)
 
     -- ---- with which numbers they refuse
 
-    only-lists : Only InputRefusal (malformed v f st)
+    only_lists : Only InputRefusal (malformed v f st)
     unfolding malformed
-    only-lists =
-        only-else InputRefusal (mesh.malformed v f) (unless (eqb (length st % 3) 0) Malformed) (of_number 1 1 (mesh.malformed v f) (omega arith) (only-malformed v f))
+    only_lists =
+        only_else InputRefusal (mesh.malformed v f) (unless (eqb (length st % 3) 0) Malformed) (of_number 1 1 (mesh.malformed v f) (omega arith) (only-malformed v f))
         (only-unless InputRefusal (eqb (length st % 3) 0) Malformed (inl (omega arith)))
 
-    only-counts : Only InputRefusal (too_many v f st)
+    only_counts : Only InputRefusal (too_many v f st)
     unfolding too_many
-    only-counts =
-        only-else InputRefusal (mesh.too_many v f) (unless (leb (station_count st) max_stations) TooMany) (of_number 2 2 (mesh.too_many v f) (omega arith) (only-many v f))
+    only_counts =
+        only_else InputRefusal (mesh.too_many v f) (unless (leb (station_count st) max_stations) TooMany) (of_number 2 2 (mesh.too_many v f) (omega arith) (only-many v f))
         (only-unless InputRefusal (leb (station_count st) max_stations) TooMany (inl (omega arith)))
 
     only-room : Only InputRefusal (too_short f st w o)
     unfolding too_short mesh.too_short
     only-room =
-        only-else InputRefusal (mesh.too_short f w) (unless (leb (field_size * station_count st) o) TooShort) (only-unless InputRefusal (leb (length f) w) TooShort (inr refl))
+        only_else InputRefusal (mesh.too_short f w) (unless (leb (field_size * station_count st) o) TooShort) (only-unless InputRefusal (leb (length f) w) TooShort (inr refl))
         (only-unless InputRefusal (leb (field_size * station_count st) o) TooShort (inr refl))
 
     only-numbers : Only InputRefusal (out_of_limits v st)
     unfolding out_of_limits
     only-numbers =
-        only-else InputRefusal (mesh.out_of_limits v) (mesh.out_of_limits st) (of_number 3 3 (mesh.out_of_limits v) (omega arith) (only-limits v f))
-        (of_number 3 3 (mesh.out_of_limits st) (omega arith) (only-limits st f))
+        only_else InputRefusal (mesh.out_of_limits v) (mesh.out_of_limits st) (of_number 3 3 (mesh.out_of_limits v) (omega arith) (only_limits v f))
+        (of_number 3 3 (mesh.out_of_limits st) (omega arith) (only_limits st f))
 
-    only-surface : Only InputRefusal (surface_cause v f)
+    only_surface : Only InputRefusal (surface_cause v f)
     unfolding surface_cause
-    only-surface =
-        only-else InputRefusal (no_such_vertex (vertex_count v) f) (order_cause v f (order_list f)) (of_number 4 4 (no_such_vertex (vertex_count v) f) (omega arith) (only-vertex v f))
+    only_surface =
+        only_else InputRefusal (no_such_vertex (vertex_count v) f) (order_cause v f (order_list f)) (of_number 4 4 (no_such_vertex (vertex_count v) f) (omega arith) (only-vertex v f))
         (of_number 5 8 (order_cause v f (order_list f)) (omega arith) (only-order v f (order_list f)))
 
     pub only-input : Only InputRefusal (input_cause v f st w o)
     unfolding input_cause given_cause
     only-input =
-        only-else InputRefusal (given_cause v f st w o) (surface_cause v f)
-        (only-else InputRefusal (malformed v f st) _ only-lists
-        (only-else InputRefusal (too_many v f st) _ only-counts
-        (only-else InputRefusal (too_short f st w o) (out_of_limits v st) only-room only-numbers)))
-        only-surface
+        only_else InputRefusal (given_cause v f st w o) (surface_cause v f)
+        (only_else InputRefusal (malformed v f st) _ only_lists
+        (only_else InputRefusal (too_many v f st) _ only_counts
+        (only_else InputRefusal (too_short f st w o) (out_of_limits v st) only-room only-numbers)))
+        only_surface

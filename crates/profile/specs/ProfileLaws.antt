@@ -28,7 +28,7 @@ use Rattle.newtonian.specs.declared.Vector.{Vector}
 use Rattle.mesh.specs.CauseLaws as causes
 use Rattle.mesh.specs.Check.{count_cause, surface_cause}
 use Rattle.mesh.specs.Check as mesh
-use Rattle.mesh.proofs.CauseNumbers.{only-else}
+use Rattle.mesh.proofs.CauseNumbers.{only_else}
 use Rattle.polyhedron.specs.Polyhedron.{station_out_of_limits, polyhedron_at, polyhedron_cause, polyhedron}
 use Rattle.polyhedron.specs.Polyhedron as single
 use Rattle.polyhedron.specs.PolyhedronLaws.{InputRefusal, polyhedron-refused}
@@ -37,10 +37,10 @@ use Rattle.profile_records.specs.RecordsLaws.{records-length}
 use Rattle.profile.specs.Profile.{station_count, field_at, malformed, too_many, too_short, out_of_limits, stations_cause, profile_causes, given_cause, input_cause, profile_cause, filled, fields_after}
 use Rattle.profile.specs.Promises.{StationRefusal, RecordFromCall, InputRight, NoCause, RefusedAt}
 use Rattle.profile.specs.InputLaws.{none-input, input_none, only-input}
-use Rattle.profile.specs.StationLaws.{has_value, record-part, value-single}
-use Rattle.profile.specs.FilledLaws.{fields-as-they-were, is-filled}
+use Rattle.profile.specs.StationLaws.{has_value, record_part, value_single}
+use Rattle.profile.specs.FilledLaws.{fields_as_they_were, is-filled}
 use Rattle.profile.specs.InOrder.{six_in_order, one_in_order, three_numbers, past_causes}
-use Rattle.profile.specs.Exactly.{of_station, none_each, each_none, refused-at, at-refuses}
+use Rattle.profile.specs.Exactly.{of_station, none_each, each_none, refused-at, at_refuses}
 
 -- ---- the records
 
@@ -49,26 +49,26 @@ module _ (v : List Float) (f : List ℕ) (st : List Float) (w : ℕ) (l : List F
   abbrev cause : Cause
   cause = profile_cause v f st w (length l)
 
-  pub records-are-calls : (i : ℕ) → i < filled cause (station_count st) → RecordFromCall v f st w (fields_after cause v f st l) i
+  pub records_are_calls : (i : ℕ) → i < filled cause (station_count st) → RecordFromCall v f st w (fields_after cause v f st l) i
   unfolding fields_after
-  records-are-calls i h =
+  records_are_calls i h =
       let n = filled cause (station_count st) in
       let s = is-filled v f st w (length l) in
       let x = has_value (field_at v f st i) (each n (λ j. cause_of (field_at v f st j)) s.values i h) in
       record {
         field = x.field;
-        answered = value-single v f st w (length l) (s.input (omega arith)) i (omega (arith, s.within)) x.field x.given;
-        stored = record-part (field_at v f st) n i x.field (drop (field_size * n) l) s.values h x.given;
+        answered = value_single v f st w (length l) (s.input (omega arith)) i (omega (arith, s.within)) x.field x.given;
+        stored = record_part (field_at v f st) n i x.field (drop (field_size * n) l) s.values h x.given;
       }
 
-  pub records-untouched : drop (field_size * filled cause (station_count st)) (fields_after cause v f st l) ≡ drop (field_size * filled cause (station_count st)) l
+  pub records_untouched : drop (field_size * filled cause (station_count st)) (fields_after cause v f st l) ≡ drop (field_size * filled cause (station_count st)) l
   unfolding fields_after
-  records-untouched =
+  records_untouched =
       let n = filled cause (station_count st) in
       drop_at (records (field_at v f st) n) (drop (field_size * n) l) (field_size * n) (records-length (field_at v f st) n (is-filled v f st w (length l)).values)
 
-  pub fields-untouched : (r : Refusal) → cause ≡ Refused r → InputRefusal r → fields_after cause v f st l ≡ l
-  fields-untouched r e h = ap (λ (c : Cause). fields_after c v f st l) e ∙ fields-as-they-were v f st r l h
+  pub fields_untouched : (r : Refusal) → cause ≡ Refused r → InputRefusal r → fields_after cause v f st l ≡ l
+  fields_untouched r e h = ap (λ (c : Cause). fields_after c v f st l) e ∙ fields_as_they_were v f st r l h
 
 pub earlier_records : (i s : ℕ) → filled (Refused (TooManyEdges i)) s ≡ i
 unfolding filled
@@ -84,16 +84,16 @@ module _ (v : List Float) (f : List ℕ) (st : List Float) (w o : ℕ) where
   pub input-exactly : (input_cause v f st w o ≡ None) ↔ InputRight v f st w o
   input-exactly = (none-input v f st w o, input_none v f st w o)
 
-  pub no-cause-exactly : (profile_cause v f st w o ≡ None) ↔ NoCause v f st w o
-  no-cause-exactly = (none_each v f st w o, each_none v f st w o)
+  pub no_cause-exactly : (profile_cause v f st w o ≡ None) ↔ NoCause v f st w o
+  no_cause-exactly = (none_each v f st w o, each_none v f st w o)
 
   pub refused-exactly : (i : ℕ) → (profile_cause v f st w o ≡ Refused (TooManyEdges i)) ↔ RefusedAt v f st w o i
-  refused-exactly i = (refused-at v f st w o i, at-refuses v f st w o i)
+  refused-exactly i = (refused-at v f st w o i, at_refuses v f st w o i)
 
-  pub only-11 : (r : Refusal) → profile_cause v f st w o ≡ Refused r → InputRefusal r ⊎ StationRefusal (station_count st) r
+  pub only_11 : (r : Refusal) → profile_cause v f st w o ≡ Refused r → InputRefusal r ⊎ StationRefusal (station_count st) r
   unfolding profile_cause
-  only-11 r e =
-      only-else (λ q. InputRefusal q ⊎ StationRefusal (station_count st) q) (input_cause v f st w o) (stations_cause v f st)
+  only_11 r e =
+      only_else (λ q. InputRefusal q ⊎ StationRefusal (station_count st) q) (input_cause v f st w o) (stations_cause v f st)
       (λ q m. inl (only-input v f st w o q m)) (λ q m. inr (of_station v f st q m)) r e
 
   pub causes_in_order : profile_cause v f st w o ≡ causes.first_cause (profile_causes v f st w o)
@@ -120,9 +120,9 @@ module _ (v : List Float) (f : List ℕ) (p : Vector) (w : ℕ) where
     after-cause : (c : Cause) → cause_of (polyhedron p v f w) ≡ c → after ≡ fields_after c v f one l
     after-cause c e = ap (λ (d : Cause). fields_after d v f one l) (one-station (length l) h ∙ e)
 
-    pub one-record : (x : Newtonian) → polyhedron p v f w ≡ value x → after ≡ field_numbers x ++ drop field_size l
+    pub one_record : (x : Newtonian) → polyhedron p v f w ≡ value x → after ≡ field_numbers x ++ drop field_size l
     unfolding fields_after filled records polyhedron
-    one-record x e =
+    one_record x e =
         after-cause None (ap cause_of e)
         ∙ ap (λ (a : Answer Newtonian). numbers_of a ++ drop field_size l) (past_causes (polyhedron_cause p v f w) (polyhedron_at 0 p v f) x e)
 
@@ -130,4 +130,4 @@ module _ (v : List Float) (f : List ℕ) (p : Vector) (w : ℕ) where
     unfolding fields_after filled records
     one-refused r e =
         after-cause (Refused r) (ap cause_of e)
-        ∙ ⊎_elim (λ i. fields-as-they-were v f one r l i) (λ q. ap (λ (s : Refusal). fields_after (Refused s) v f one l) q) (polyhedron-refused v f p w r e)
+        ∙ ⊎_elim (λ i. fields_as_they_were v f one r l i) (λ q. ap (λ (s : Refusal). fields_after (Refused s) v f one l) q) (polyhedron-refused v f p w r e)

@@ -28,13 +28,13 @@ pub record StationRefusal (n : ℕ) (r : Refusal) : Type 0 where
 
 module _ (v : List Float) (f : List ℕ) (st : List Float) (w : ℕ) where
   -- the single call at station i
-  abbrev pub singleCall : ℕ → Answer Newtonian
-  singleCall i = polyhedron (station_at st i) v f w
+  abbrev pub single_call : ℕ → Answer Newtonian
+  single_call i = polyhedron (station_at st i) v f w
 
   -- record i of the list l, its numbers 13 i to 13 i + 12, is what the single call answers at station i
   pub record RecordFromCall (l : List Float) (i : ℕ) : Type 0 where
     pub field : Newtonian
-    pub answered : singleCall i ≡ value field
+    pub answered : single_call i ≡ value field
     pub stored : take field_size (drop (field_size * i) l) ≡ field_numbers field
 
   -- document 01's causes before any field, each denied by itself
@@ -65,11 +65,11 @@ module _ (v : List Float) (f : List ℕ) (st : List Float) (w : ℕ) where
   -- no cause: none of these, and the single call has a value at each station
   pub record NoCause (o : ℕ) : Type 0 where
     pub input : InputRight o
-    pub each : (i : ℕ) → i < station_count st → HasValue (singleCall i)
+    pub each : (i : ℕ) → i < station_count st → HasValue (single_call i)
 
   -- 11 at station i: none of these, the single call is refused there by 11, and at each station before it has a value
   pub record RefusedAt (o i : ℕ) : Type 0 where
     pub input : InputRight o
     pub station : i < station_count st
-    pub itself : singleCall i ≡ refused (TooManyEdges 0)
-    pub before : (j : ℕ) → j < i → HasValue (singleCall j)
+    pub itself : single_call i ≡ refused (TooManyEdges 0)
+    pub before : (j : ℕ) → j < i → HasValue (single_call j)

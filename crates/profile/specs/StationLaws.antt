@@ -23,13 +23,13 @@ use Rattle.refusals.proofs.Causes.{both}
 use Rattle.newtonian.specs.Vectors.{field_numbers, field_size}
 use Rattle.newtonian.specs.declared.Newtonian.{Newtonian}
 use Rattle.polyhedron.specs.PolyhedronLaws.{at-refused}
-use Rattle.polyhedron.specs.StationNumber.{polyhedronAt-value, polyhedronAt-too-many}
+use Rattle.polyhedron.specs.StationNumber.{polyhedron_at-value, polyhedron_at-too_many}
 use Rattle.profile_records.specs.Records.{cause_of, numbers_of, first_cause, records}
 use Rattle.profile_records.specs.Records as stations
 use Rattle.profile_records.specs.RecordsLaws.{records-length, filled-all, filled-refused}
 use Rattle.profile.specs.Profile.{station_count, station_at, field_at, stations_cause, filled}
-use Rattle.profile.specs.Promises.{HasValue, singleCall, InputRight}
-use Rattle.profile.specs.InputLaws.{single-call}
+use Rattle.profile.specs.Promises.{HasValue, single_call, InputRight}
+use Rattle.profile.specs.InputLaws.{single_call_lem}
 
 -- ---- an answer by its cause
 
@@ -62,15 +62,15 @@ first-refused (suc n) c r e = go (first_of n c) refl e (λ q. first-refused n c 
 -- ---- records of stations that all have values
 
 module _ (a : ℕ → Answer Newtonian) where
-  pub record-part : (n i : ℕ) (x : Newtonian) (l : List Float) → first_cause a n ≡ None → i < n → a i ≡ value x
+  pub record_part : (n i : ℕ) (x : Newtonian) (l : List Float) → first_cause a n ≡ None → i < n → a i ≡ value x
       → take field_size (drop (field_size * i) (records a n ++ l)) ≡ field_numbers x
   unfolding first_of records field_numbers
-  record-part zero i x l e h q = absurd (omega arith)
-  record-part (suc n) i x l e h q =
+  record_part zero i x l e h q = absurd (omega arith)
+  record_part (suc n) i x l e h q =
       let t = both (first_cause a n) (cause_of (a n)) e in
       let s = append_assoc (records a n) (numbers_of (a n)) l in
       ⊎_elim
-      (λ m. ap (λ (k : List Float). take field_size (drop (field_size * i) k)) s ∙ record-part n i x (numbers_of (a n) ++ l) t.0 m q)
+      (λ m. ap (λ (k : List Float). take field_size (drop (field_size * i) k)) s ∙ record_part n i x (numbers_of (a n) ++ l) t.0 m q)
       (λ m.
       let z : n ≡ i = omega arith in
       let y : a n ≡ value x = ap a z ∙ q in
@@ -100,20 +100,20 @@ module _ (v : List Float) (f : List ℕ) (st : List Float) where
       let m = filled-refused (field_at v f st) (station_count st) g.at (λ j l s t. at-refused j (station_at st j) v f s t) (e ∙ ap {B = Cause} Refused q) in
       rw q (sym m.0)
 
-  pub filled-agrees : filled (stations_cause v f st) (station_count st) ≡ stations.filled (field_at v f st) (station_count st)
-  filled-agrees = agrees (stations_cause v f st) refl
+  pub filled_agrees : filled (stations_cause v f st) (station_count st) ≡ stations.filled (field_at v f st) (station_count st)
+  filled_agrees = agrees (stations_cause v f st) refl
 
   -- ---- the single call
 
   module _ (w o : ℕ) (h : InputRight v f st w o) (i : ℕ) (l : i < station_count st) where
-    pub value-single : (x : Newtonian) → field_at v f st i ≡ value x → singleCall v f st w i ≡ value x
-    value-single x e = single-call v f st w o h i l ∙ polyhedronAt-value i 0 (station_at st i) v f x e
+    pub value_single : (x : Newtonian) → field_at v f st i ≡ value x → single_call v f st w i ≡ value x
+    value_single x e = single_call_lem v f st w o h i l ∙ polyhedron_at-value i 0 (station_at st i) v f x e
 
-    pub single-value : (x : Newtonian) → singleCall v f st w i ≡ value x → field_at v f st i ≡ value x
-    single-value x e = polyhedronAt-value 0 i (station_at st i) v f x (sym (single-call v f st w o h i l) ∙ e)
+    pub single_value_lem : (x : Newtonian) → single_call v f st w i ≡ value x → field_at v f st i ≡ value x
+    single_value_lem x e = polyhedron_at-value 0 i (station_at st i) v f x (sym (single_call_lem v f st w o h i l) ∙ e)
 
-    pub refused-single : (r : Refusal) → field_at v f st i ≡ refused r → singleCall v f st w i ≡ refused (TooManyEdges 0)
-    refused-single r e = single-call v f st w o h i l ∙ polyhedronAt-too-many i 0 (station_at st i) v f r e
+    pub refused_single : (r : Refusal) → field_at v f st i ≡ refused r → single_call v f st w i ≡ refused (TooManyEdges 0)
+    refused_single r e = single_call_lem v f st w o h i l ∙ polyhedron_at-too_many i 0 (station_at st i) v f r e
 
-    pub single-refused : (r : Refusal) → singleCall v f st w i ≡ refused r → field_at v f st i ≡ refused (TooManyEdges i)
-    single-refused r e = polyhedronAt-too-many 0 i (station_at st i) v f r (sym (single-call v f st w o h i l) ∙ e)
+    pub single_refused : (r : Refusal) → single_call v f st w i ≡ refused r → field_at v f st i ≡ refused (TooManyEdges i)
+    single_refused r e = polyhedron_at-too_many 0 i (station_at st i) v f r (sym (single_call_lem v f st w o h i l) ∙ e)

@@ -14,7 +14,7 @@ use Rattle.mesh_orders.specs.Edges.{max_vertices, max_faces, max_stations}
 use Rattle.mesh.specs.Check.{in_limits, surface_cause, leaves_work, work_after}
 use Rattle.mesh.specs.Check as mesh
 use Rattle.mesh.specs.Surface.{vertex_count, face_count}
-use Rattle.mesh.proofs.CauseNumbers.{Only, only-unless, only-else, only-first}
+use Rattle.mesh.proofs.CauseNumbers.{Only, only-unless, only_else, only-first}
 use Rattle.profile.specs.Profile.{station_count, malformed, too_many, too_short, out_of_limits, stations_cause, given_cause, input_cause, profile_cause}
 use Rattle.profile.specs.Exactly.{of_station}
 
@@ -26,29 +26,29 @@ unfolding mesh.out_of_limits leaves_work
 numbers_leave v = only-first Leaves (length v) (in_limits v) (λ i. OutOfLimits) (λ i. refl)
 
 module _ (v : List Float) (f : List ℕ) (st : List Float) (w o : ℕ) (l : List ℕ) where
-  given-leaves : Only Leaves (given_cause v f st w o)
+  given_leaves : Only Leaves (given_cause v f st w o)
   unfolding given_cause malformed mesh.malformed too_many mesh.too_many too_short mesh.too_short out_of_limits leaves_work
-  given-leaves =
+  given_leaves =
       let triples = eqb (length v % 3) 0 && eqb (length f % 3) 0 in
       let counts = leb (vertex_count v) max_vertices && leb (face_count f) max_faces in
-      only-else Leaves (malformed v f st) _
-      (only-else Leaves (unless triples Malformed) _ (only-unless Leaves triples Malformed refl) (only-unless Leaves (eqb (length st % 3) 0) Malformed refl))
-      (only-else Leaves (too_many v f st) _
-      (only-else Leaves (unless counts TooMany) _ (only-unless Leaves counts TooMany refl) (only-unless Leaves (leb (station_count st) max_stations) TooMany refl))
-      (only-else Leaves (too_short f st w o) _
-      (only-else Leaves (unless (leb (length f) w) TooShort) _ (only-unless Leaves (leb (length f) w) TooShort refl) (only-unless Leaves (leb (field_size * station_count st) o) TooShort refl))
-      (only-else Leaves (mesh.out_of_limits v) _ (numbers_leave v) (numbers_leave st))))
+      only_else Leaves (malformed v f st) _
+      (only_else Leaves (unless triples Malformed) _ (only-unless Leaves triples Malformed refl) (only-unless Leaves (eqb (length st % 3) 0) Malformed refl))
+      (only_else Leaves (too_many v f st) _
+      (only_else Leaves (unless counts TooMany) _ (only-unless Leaves counts TooMany refl) (only-unless Leaves (leb (station_count st) max_stations) TooMany refl))
+      (only_else Leaves (too_short f st w o) _
+      (only_else Leaves (unless (leb (length f) w) TooShort) _ (only-unless Leaves (leb (length f) w) TooShort refl) (only-unless Leaves (leb (field_size * station_count st) o) TooShort refl))
+      (only_else Leaves (mesh.out_of_limits v) _ (numbers_leave v) (numbers_leave st))))
 
-  pub work-untouched : (r : Refusal) → given_cause v f st w o ≡ Refused r → work_after (profile_cause v f st w o) f l ≡ l
+  pub work_untouched : (r : Refusal) → given_cause v f st w o ≡ Refused r → work_after (profile_cause v f st w o) f l ≡ l
   unfolding profile_cause input_cause work_after
-  work-untouched r e = rw (e, given-leaves r e)
+  work_untouched r e = rw (e, given_leaves r e)
 
-  by-surface : (c d : Cause) → ((r : Refusal) → d ≡ Refused r → work_after (Refused r) f l ≡ work_after None f l) → work_after (or_else c d) f l ≡ work_after c f l
-  by-surface (Refused r) d h = refl
-  by-surface None None h = refl
-  by-surface None (Refused r) h = h r refl
+  by_surface : (c d : Cause) → ((r : Refusal) → d ≡ Refused r → work_after (Refused r) f l ≡ work_after None f l) → work_after (or_else c d) f l ≡ work_after c f l
+  by_surface (Refused r) d h = refl
+  by_surface None None h = refl
+  by_surface None (Refused r) h = h r refl
 
-  pub work-by-surface : given_cause v f st w o ≡ None → work_after (profile_cause v f st w o) f l ≡ work_after (surface_cause v f) f l
+  pub work-by_surface : given_cause v f st w o ≡ None → work_after (profile_cause v f st w o) f l ≡ work_after (surface_cause v f) f l
   unfolding profile_cause input_cause work_after leaves_work
-  work-by-surface e =
-      rw e (by-surface (surface_cause v f) (stations_cause v f st) (λ r q. ap (λ (s : Refusal). work_after (Refused s) f l) (of_station v f st r q).given))
+  work-by_surface e =
+      rw e (by_surface (surface_cause v f) (stations_cause v f st) (λ r q. ap (λ (s : Refusal). work_after (Refused s) f l) (of_station v f st r q).given))

@@ -16,7 +16,7 @@ use Rattle.recheck_input.specs.declared.Input.TheVariants.{Bytes, Failed}
 use Rattle.refusals.specs.Answer.{Answer, value, refused}
 use Rattle.refusals.specs.declared.Refusal.TheVariants.{TooMany, WrongLength}
 use Rattle.refusals.specs.Numbers.{number_of, place_of}
-use Rattle.sheet.specs.Checker.{checkSheet}
+use Rattle.sheet.specs.Checker.{check_sheet}
 use Rattle.sheet_layout.proofs.Stores.{sets_then}
 use Rattle.recheck_line.specs.Line.{places, decimal, accepted_word, refused_word, line_of, answer_line, max_input, recheck_line, input_line, line_room, LineAtStart}
 
@@ -26,16 +26,16 @@ ten_pos (suc k) = let e : 10 ^ suc k ≡ 10 ^ k * 10 = pow-suc 10 k in let p = t
 
 -- the fewest digits are as many as `places` counts
 module _ {n k : ℕ} (h : IsDigitCount 10 1 n (suc (suc k))) where
-  from-ten : 10 ^ suc k ≤ n
-  from-ten = let e : suc (suc k) - 1 ≡ suc k = omega arith in rw e at (h.2 (omega arith))
+  from_ten : 10 ^ suc k ≤ n
+  from_ten = let e : suc (suc k) - 1 ≡ suc k = omega arith in rw e at (h.2 (omega arith))
 
   ten : 10 ≤ n
-  ten = omega (arith, pow-suc 10 k, ten_pos k, from-ten)
+  ten = omega (arith, pow-suc 10 k, ten_pos k, from_ten)
 
-  without-last : IsDigitCount 10 1 (n / 10) (suc k)
-  without-last =
+  without_last : IsDigitCount 10 1 (n / 10) (suc k)
+  without_last =
       let e : suc k - 1 ≡ k = omega arith in
-      (omega arith, omega (arith, h.1, pow-suc 10 (suc k)), λ q. rw e (omega (arith, pow-suc 10 k, from-ten)))
+      (omega arith, omega (arith, h.1, pow-suc 10 (suc k)), λ q. rw e (omega (arith, pow-suc 10 k, from_ten)))
 
 none : {n : ℕ} → IsDigitCount 10 1 n 0 → ⊥
 none h = omega (arith, h.0)
@@ -47,7 +47,7 @@ counted zero n (suc zero) h l = refl
 counted zero n (suc (suc k)) h l = absurd (omega (arith, ten h, pow-suc 10 0))
 counted (suc m) n zero h l = absurd (none h)
 counted (suc m) n (suc zero) h l = rw (lt-ltb n 10 (omega (arith, pow-suc 10 0, h.1)))
-counted (suc m) n (suc (suc k)) h l = rw (le-ltb n 10 (ten h)) (ap suc (counted m (n / 10) (suc k) (without-last h) (omega (arith, pow-suc 10 (suc m)))))
+counted (suc m) n (suc (suc k)) h l = rw (le-ltb n 10 (ten h)) (ap suc (counted m (n / 10) (suc k) (without_last h) (omega (arith, pow-suc 10 (suc m)))))
 
 one_more : (t : Bool) (p m : ℕ) → p ≤ suc m → cond t 1 (suc p) ≤ suc (suc m)
 one_more true p m h = omega arith
@@ -125,7 +125,7 @@ line_most (refused r) = line_of-most refused_word (number_of r) (place_of r) (om
 
 recheck_most : (b : List ℕ) → length (recheck_line b) ≤ line_room
 unfolding recheck_line
-recheck_most b = line_most (cond (leb (length b) max_input) (checkSheet b) (refused TooMany))
+recheck_most b = line_most (cond (leb (length b) max_input) (check_sheet b) (refused TooMany))
 
 input_most : (i : Input) (b : List ℕ) → length (input_line i b) ≤ line_room
 unfolding input_line

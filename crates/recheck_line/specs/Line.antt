@@ -7,7 +7,7 @@ use Rattle.recheck_input.specs.declared.Input.TheVariants.{Bytes, Failed}
 use Rattle.refusals.specs.Answer.{Answer, value, refused}
 use Rattle.refusals.specs.declared.Refusal.TheVariants.{TooMany, WrongLength}
 use Rattle.refusals.specs.Numbers.{number_of, place_of}
-use Rattle.sheet.specs.Checker.{checkSheet}
+use Rattle.sheet.specs.Checker.{check_sheet}
 
 -- how many decimal digits n has, but at most m more than one
 unfoldable pub places : ℕ → ℕ → ℕ
@@ -39,7 +39,7 @@ abbrev pub max_input : ℕ
 max_input = 65536
 
 unfoldable pub recheck_line : List ℕ → List ℕ
-recheck_line b = answer_line (cond (leb (length b) max_input) (checkSheet b) (refused TooMany))
+recheck_line b = answer_line (cond (leb (length b) max_input) (check_sheet b) (refused TooMany))
 
 -- what `recheck` prints of its input, of which n bytes stand at the start of b. Where a read failed the sheet is not there whole: `refused 16 0`
 unfoldable pub input_line : Input → List ℕ → List ℕ

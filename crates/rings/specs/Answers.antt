@@ -8,10 +8,10 @@ use Rattle.rings.specs.declared.RingAnswer.{RingAnswer}
 use Rattle.rings.specs.declared.RingAnswer as rings
 
 -- the answer of each case
-abbrev pub completeAnswer : CompleteIntegrals → Answer Complete
-completeAnswer (completes.TheVariants.Values c) = value c
-completeAnswer (completes.TheVariants.Refused r) = refused r
+abbrev pub complete_answer : CompleteIntegrals → Answer Complete
+complete_answer (completes.TheVariants.Values c) = value c
+complete_answer (completes.TheVariants.Refused r) = refused r
 
-abbrev pub ringAnswer : RingAnswer → Answer RingAverage
-ringAnswer (rings.TheVariants.Value a) = value a
-ringAnswer (rings.TheVariants.Refused r) = refused r
+abbrev pub ring_answer : RingAnswer → Answer RingAverage
+ring_answer (rings.TheVariants.Value a) = value a
+ring_answer (rings.TheVariants.Refused r) = refused r

@@ -3,8 +3,8 @@
 
 ghost use Rattle.std.specs.Prelude.{◌≡◌};
 ghost use Rattle.carlson.specs.Rounds.{rounds};
-ghost use Rattle.carlson.specs.Answers.{integralAnswer};
-ghost use Rattle.rings.specs.Answers.{completeAnswer, ringAnswer};
+ghost use Rattle.carlson.specs.Answers.{integral_answer};
+ghost use Rattle.rings.specs.Answers.{complete_answer, ring_answer};
 ghost use Rattle.rings.specs.Elliptic.{max_means, next_mean, mean_test, elliptic, complete_elliptic};
 ghost use Rattle.rings.specs.Cel.{four_finite, cel};
 ghost use Rattle.rings.specs.Ring.{far_squared, near_squared, ring_parameter, near_axis, off_axis, ∂ρ, ring_at, ring_within_limits, ring};
@@ -113,7 +113,7 @@ pub fn elliptic(m: f64) -> Complete
 
 // The complete elliptic integrals K(m) and E(m), for 0 ≤ m < 1: refused by 14 outside that domain.
 pub fn complete_elliptic(m: f64) -> CompleteIntegrals
-    ensures { completeAnswer result ≡ complete_elliptic m }
+    ensures { complete_answer result ≡ complete_elliptic m }
 {
     if (0.0 <= m) & (m < 1.0) {
         return CompleteIntegrals::Values(elliptic(m));
@@ -131,7 +131,7 @@ fn four_finite(kc: f64, p: f64, a: f64, b: f64) -> bool
 
 // Bulirsch's cel(k_c, p, a, b), for finite arguments and p > 0: refused by 14 outside that domain.
 pub fn cel(kc: f64, p: f64, a: f64, b: f64) -> Integral
-    ensures { integralAnswer result ≡ cel kc p a b }
+    ensures { integral_answer result ≡ cel kc p a b }
 {
     if four_finite(kc, p, a, b) & (0.0 < p) {
         return Integral::Value(special_bulirsch::cel_of(kc, p, a, b));
@@ -201,7 +201,7 @@ fn ring_within_limits(radius: f64, rho: f64, z: f64) -> bool
 // The average of 1/r over a ring, seen from (ρ, z), and its gradient: refused by 3, and by 14 unless
 // radius > 0, rho ≥ 0, and d > 0 and m < 1 as computed.
 pub fn ring(radius: f64, rho: f64, z: f64) -> RingAnswer
-    ensures { ringAnswer result ≡ ring radius rho z }
+    ensures { ring_answer result ≡ ring radius rho z }
 {
     if ring_within_limits(radius, rho, z) {
         let s = (radius + rho) * (radius + rho) + z * z;

@@ -11,7 +11,7 @@ use Rattle.doubles.proofs.FiniteUnsigned.{le→cross, finite_unsigned_of_value}
 use Rattle.doubles.proofs.Value.{Units, units_of}
 use Rattle.doubles.proofs.Between.{Between}
 use Rattle.roots.specs.Root.{root_of, Root}
-use Rattle.roots.specs.Rounding.{root_of_rounded, root_ge, root-le}
+use Rattle.roots.specs.Rounding.{root_of_rounded, root_ge, root_le}
 
 -- a² against x = y / d, in units: A is a's, and U is 2 ^ 1074
 low_units : (y d n m A U : ℕ) → 0 < d → 0 < m → n * U ≡ A * m → n * n * d ≤ y * (m * m) → A * A ≤ y * (U * U) / d
@@ -45,17 +45,17 @@ module _ (a b : Float) (ta : T (fits binary64 a)) (na : T (finite_unsigned a)) (
       }
 
   -- a² ≤ x ≤ b², as fractions
-  pub root-within : (x : Float) → T (finite_unsigned x) → num a * num a * den x ≤ num x * (den a * den a) → num x * (den b * den b) ≤ num b * num b * den x → Between a b (Root x)
+  pub root_within : (x : Float) → T (finite_unsigned x) → num a * num a * den x ≤ num x * (den a * den a) → num x * (den b * den b) ≤ num b * num b * den x → Between a b (Root x)
   unfolding Root
-  root-within nan p l h = absurd p
-  root-within (inf s) p l h = absurd p
-  root-within (fin true m e) p l h = absurd p
-  root-within (fin false m e) p l h =
+  root_within nan p l h = absurd p
+  root_within (inf s) p l h = absurd p
+  root_within (fin true m e) p l h = absurd p
+  root_within (fin false m e) p l h =
       let n = m * up e * 2 ^ 2148 / down e in
       let w = root_of_rounded n in
       between (root_of n) w.0 w.1 w.2
       (root_ge n w.0 w.1 w.3 A.p A.j A.digits (low_units (m * up e) (down e) (num a) (den a) (A.p * 2 ^ A.j) (2 ^ 1074) (down_pos e) (den_pos a) (value→cross a (A.p * 2 ^ A.j) (2 ^ 1074) A.value) l))
-      (root-le n w.0 w.1 w.3 B.p B.j B.digits (high_units (m * up e) (down e) (num b) (den b) (B.p * 2 ^ B.j) (2 ^ 1074) (den_pos b) (value→cross b (B.p * 2 ^ B.j) (2 ^ 1074) B.value) h))
+      (root_le n w.0 w.1 w.3 B.p B.j B.digits (high_units (m * up e) (down e) (num b) (den b) (B.p * 2 ^ B.j) (2 ^ 1074) (den_pos b) (value→cross b (B.p * 2 ^ B.j) (2 ^ 1074) B.value) h))
 
 -- ---- what Carlson's loops need
 
@@ -73,4 +73,4 @@ four = fin false 1 (pos 2)
 
 pub root_between : (x : Float) → Between 1/4 four x → Between 1/2 two (Root x)
 unfolding fits
-root_between x w = root-within 1/2 two tt tt tt tt x w.ok (le→cross 1/4 x tt w.ok w.low) (le→cross x four w.ok tt w.high)
+root_between x w = root_within 1/2 two tt tt tt tt x w.ok (le→cross 1/4 x tt w.ok w.low) (le→cross x four w.ok tt w.high)

@@ -97,9 +97,9 @@ module _ (x : Float) (held : T (fits binary64 x)) where
   unfolding Root of_bits
   own-zero e = own 0 e refl
 
-  pub own-infinity : to_bits binary64 x ≡ 0x7ff0_0000_0000_0000 → x ≡ Root x
+  pub own_infinity : to_bits binary64 x ≡ 0x7ff0_0000_0000_0000 → x ≡ Root x
   unfolding Root of_bits
-  own-infinity e = own 0x7ff0_0000_0000_0000 e refl
+  own_infinity e = own 0x7ff0_0000_0000_0000 e refl
 
   pub own-negative-zero : to_bits binary64 x ≡ 0x8000_0000_0000_0000 → x ≡ Root x
   unfolding Root of_bits

@@ -1,7 +1,7 @@
 -- The arithmetic of `settled_exactly`. Assumes nothing.
 use Rattle.std.proofs.Common.{◌≡◌, ℕ, ◌+◌, ◌-◌, ◌*◌, ◌%◌, ◌^◌, ◌<◌, ◌≤◌, arith}
 use Rattle.roots.specs.NearestWhole.{Near}
-use Rattle.roots.proofs.Trial.{gh-lt, hh-lt, square, no_wrap}
+use Rattle.roots.proofs.Trial.{gh_lt, hh_lt, square, no_wrap}
 
 -- neither difference of the code wraps; gk and kk stand for the products
 first : (gk f t : ℕ) → f < 0xf_ffff_f000 → gk < 2 ^ 59 → t < 2 ^ 41 → (t + gk) % 2 ^ 64 ≡ f * 2 ^ 20 % 2 ^ 64 + 2 ^ 40 → t + gk ≡ f * 2 ^ 20 + 2 ^ 40
@@ -23,12 +23,12 @@ second kk c t u p q l r e =
 rest : (gg gk kk g k f t u : ℕ) → t + gk ≡ f * 2 ^ 20 + 2 ^ 40 → u + (kk + (2 ^ 62 + 2)) ≡ t * 2 ^ 22 + (g * 2 ^ 21 + k + 1) → gg * 2 ^ 42 + gk * 2 ^ 22 + kk + u + 1 ≡ (f + gg) * 2 ^ 42 + (g * 2 ^ 21 + k)
 rest gg gk kk g k f t u e d = omega arith
 
-module _ (f g k c : ℕ) (f_lt : f < 0xf_ffff_f000) (g-lt : g < 2 ^ 32) (k-le : k ≤ 2 ^ 26) (next : c ≡ g * 2 ^ 21 + k + 1) where
+module _ (f g k c : ℕ) (f_lt : f < 0xf_ffff_f000) (g_lt : g < 2 ^ 32) (k_le : k ≤ 2 ^ 26) (next : c ≡ g * 2 ^ 21 + k + 1) where
   pub lacks : (t u : ℕ) → (t + g * k) % 2 ^ 64 ≡ f * 2 ^ 20 % 2 ^ 64 + 2 ^ 40 → t < 2 ^ 41 → (u + (k * k + (2 ^ 62 + 2))) % 2 ^ 64 ≡ t * 2 ^ 22 % 2 ^ 64 + c → u < 6 * c
       → (g * 2 ^ 21 + k) * (g * 2 ^ 21 + k) + u + 1 ≡ (f + g * g) * 2 ^ 42 + (g * 2 ^ 21 + k)
   lacks t u e r d l =
-      let a : t + g * k ≡ f * 2 ^ 20 + 2 ^ 40 = first (g * k) f t f_lt (gh-lt f g k f_lt g-lt k-le) r e in
-      let b : u + (k * k + (2 ^ 62 + 2)) ≡ t * 2 ^ 22 + c = second (k * k) c t u c_lt (hh-lt f g k f_lt g-lt k-le) l r d in
+      let a : t + g * k ≡ f * 2 ^ 20 + 2 ^ 40 = first (g * k) f t f_lt (gh_lt f g k f_lt g_lt k_le) r e in
+      let b : u + (k * k + (2 ^ 62 + 2)) ≡ t * 2 ^ 22 + c = second (k * k) c t u c_lt (hh_lt f g k f_lt g_lt k_le) l r d in
       rw (square g k) (rest (g * g) (g * k) (k * k) g k f t u a (rw next at b))
     where
       c_lt : c < 2 ^ 54

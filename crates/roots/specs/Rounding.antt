@@ -41,15 +41,15 @@ HalfStepAround : ℕ → ℕ → ℕ → Type 0
 HalfStepAround P D c = (sq P (2 * c - 1) ≤ D) × (D ≤ sq P (2 * c + 1))
 
 module _ (P D q : ℕ) (lo : sq P (2 * q) ≤ D) (hi : D < sq P (2 * q + 2)) where
-  half-step-around : (o : Ordering) → (T (is_le o) → D ≤ sq P (2 * q + 1)) → (T (not (is_le o)) → sq P (2 * q + 1) < D) → (T (compare_is_eq o) → D ≡ sq P (2 * q + 1)) → HalfStepAround P D (nearest q o)
+  half_step_around : (o : Ordering) → (T (is_le o) → D ≤ sq P (2 * q + 1)) → (T (not (is_le o)) → sq P (2 * q + 1) < D) → (T (compare_is_eq o) → D ≡ sq P (2 * q + 1)) → HalfStepAround P D (nearest q o)
   unfolding HalfStepAround
-  half-step-around Ordering.lt a b e = (le_trans (sq-le P (2 * q - 1) (2 * q) (omega arith)) lo, a tt)
-  half-step-around Ordering.eq a b e =
+  half_step_around Ordering.lt a b e = (le_trans (sq-le P (2 * q - 1) (2 * q) (omega arith)) lo, a tt)
+  half_step_around Ordering.eq a b e =
       let h = e tt in (
         le_trans (sq-le P (2 * (q + q % 2) - 1) (2 * q + 1) (omega arith)) (le_of_eq (sym h)),
         le_trans (le_of_eq h) (sq-le P (2 * q + 1) (2 * (q + q % 2) + 1) (omega arith)),
       )
-  half-step-around Ordering.gt a b e = (
+  half_step_around Ordering.gt a b e = (
     le_trans (sq-le P (2 * suc q - 1) (2 * q + 1) (omega arith)) (le_of_lt (b tt)),
     le_trans (le_of_lt hi) (sq-le P (2 * q + 2) (2 * suc q + 1) (omega arith)),
   )
@@ -57,46 +57,46 @@ module _ (P D q : ℕ) (lo : sq P (2 * q) ≤ D) (hi : D < sq P (2 * q + 2)) whe
 -- ---- the root's whole part, the leading digits of it that are kept, how many are dropped, and how √n compares with the number halfway
 
 module _ (n : ℕ) where
-  wholeRoot : ℕ
-  wholeRoot = isqrt n
+  whole_root : ℕ
+  whole_root = isqrt n
 
   dropped : ℕ
-  unfolding wholeRoot
-  dropped = size wholeRoot - 53
+  unfolding whole_root
+  dropped = size whole_root - 53
 
   kept : ℕ
-  unfolding dropped wholeRoot
-  kept = wholeRoot / 2 ^ dropped
+  unfolding dropped whole_root
+  kept = whole_root / 2 ^ dropped
 
   comparison : Ordering
-  unfolding kept dropped wholeRoot
+  unfolding kept dropped whole_root
   comparison = compare (4 * n) (sq (2 ^ dropped) (2 * kept + 1))
 
   kept_low : sq (2 ^ dropped) (2 * kept) ≤ 4 * n
-  unfolding kept dropped wholeRoot
+  unfolding kept dropped whole_root
   kept_low =
-      let a : kept * 2 ^ dropped ≤ wholeRoot = div-mul-le_self wholeRoot (2 ^ dropped) in
-      let b : kept * 2 ^ dropped * (kept * 2 ^ dropped) ≤ wholeRoot * wholeRoot = mul-le-mul a a in
+      let a : kept * 2 ^ dropped ≤ whole_root = div-mul-le_self whole_root (2 ^ dropped) in
+      let b : kept * 2 ^ dropped * (kept * 2 ^ dropped) ≤ whole_root * whole_root = mul-le-mul a a in
       let r = (isqrt_law n).0 in
       omega arith
 
   kept_high : 4 * n < sq (2 ^ dropped) (2 * kept + 2)
-  unfolding kept dropped wholeRoot
+  unfolding kept dropped whole_root
   kept_high =
-      let a : wholeRoot < kept * 2 ^ dropped + 2 ^ dropped = lt-div-mul-add (pow_pos dropped) in
-      let b : wholeRoot + 1 ≤ (kept + 1) * 2 ^ dropped = omega arith in
-      let d : (wholeRoot + 1) * (wholeRoot + 1) ≤ (kept + 1) * 2 ^ dropped * ((kept + 1) * 2 ^ dropped) = mul-le-mul b b in
+      let a : whole_root < kept * 2 ^ dropped + 2 ^ dropped = lt-div-mul-add (pow_pos dropped) in
+      let b : whole_root + 1 ≤ (kept + 1) * 2 ^ dropped = omega arith in
+      let d : (whole_root + 1) * (whole_root + 1) ≤ (kept + 1) * 2 ^ dropped * ((kept + 1) * 2 ^ dropped) = mul-le-mul b b in
       let r = (isqrt_law n).1 in
       omega arith
 
   kept-finest : ((2 ^ 52 ≤ nearest kept comparison) × (sq (2 ^ dropped) (2 ^ 52) ≤ n)) ⊎ (dropped ≡ 0)
-  unfolding comparison kept dropped wholeRoot
-  kept-finest = go (size wholeRoot - 53) refl
+  unfolding comparison kept dropped whole_root
+  kept-finest = go (size whole_root - 53) refl
     where
-      reached : (z : ℕ) → size wholeRoot - 53 ≡ suc z → 2 ^ 52 * 2 ^ dropped ≤ wholeRoot
-      reached z e = subst (λ (x : ℕ). x ≤ wholeRoot) (pow-add 2 52 dropped) (size_reaches wholeRoot (52 + dropped) (omega arith))
+      reached : (z : ℕ) → size whole_root - 53 ≡ suc z → 2 ^ 52 * 2 ^ dropped ≤ whole_root
+      reached z e = subst (λ (x : ℕ). x ≤ whole_root) (pow-add 2 52 dropped) (size_reaches whole_root (52 + dropped) (omega arith))
 
-      go : (z : ℕ) → size wholeRoot - 53 ≡ z → ((2 ^ 52 ≤ nearest kept comparison) × (sq (2 ^ dropped) (2 ^ 52) ≤ n)) ⊎ (dropped ≡ 0)
+      go : (z : ℕ) → size whole_root - 53 ≡ z → ((2 ^ 52 ≤ nearest kept comparison) × (sq (2 ^ dropped) (2 ^ 52) ≤ n)) ⊎ (dropped ≡ 0)
       go zero e = inr e
       go (suc z) e =
           let r = reached z e in
@@ -104,11 +104,11 @@ module _ (n : ℕ) where
 
 -- the root of n is c * 2 ^ k units
 pub root_of_rounded : (n : ℕ) → (c : ℕ) × (k : ℕ) × (root_of n ≡ units binary64 false c k) × RoundedRoot n c k
-unfolding root_of comparison kept dropped wholeRoot HalfStepAround
+unfolding root_of comparison kept dropped whole_root HalfStepAround
 root_of_rounded n =
     let b = sq (2 ^ dropped n) (2 * kept n + 1) in
-    let e = half-step-around (2 ^ dropped n) (4 * n) (kept n) (kept_low n) (kept_high n) (comparison n) (leb→le (4 * n) b) (nleb→lt (4 * n) b) (eqb→eq (4 * n) b) in
-    (nearest (kept n) (comparison n), dropped n, refl, record { low = e.0; high = e.1; at-most_53_digits = le_trans (nearest-le (kept n) (comparison n)) (kept-lt 53 (wholeRoot n)); finest = kept-finest n })
+    let e = half_step_around (2 ^ dropped n) (4 * n) (kept n) (kept_low n) (kept_high n) (comparison n) (leb→le (4 * n) b) (nleb→lt (4 * n) b) (eqb→eq (4 * n) b) in
+    (nearest (kept n) (comparison n), dropped n, refl, record { low = e.0; high = e.1; at-most_53_digits = le_trans (nearest-le (kept n) (comparison n)) (kept-lt 53 (whole_root n)); finest = kept-finest n })
 
 -- ---- every other number of 53 digits, `other` = p * 2 ^ j, is at least a step away, or √n is no less than c * 2 ^ k
 
@@ -124,8 +124,8 @@ module _ (n c k p j : ℕ) (r : RoundedRoot n c k) (p-lt : p < 2 ^ 53) where
   under : j < k → other < 2 ^ 52 * 2 ^ k
   under h = lt_of_lt_of_le (shl_lt 53 j p-lt) (le_trans (pow_mono {i = 53 + j} {j = 52 + k} (omega arith)) (le_of_eq (pow-add 2 52 k)))
 
-  step-up : (x : ℕ) → c * 2 ^ k < x * 2 ^ k → c * 2 ^ k + 2 ^ k ≤ x * 2 ^ k
-  step-up x h =
+  step_up : (x : ℕ) → c * 2 ^ k < x * 2 ^ k → c * 2 ^ k + 2 ^ k ≤ x * 2 ^ k
+  step_up x h =
       let l : c < x = lt_of_mul-lt-mul_right (2 ^ k) h in
       let g : (c + 1) * 2 ^ k ≤ x * 2 ^ k = mul-le-mul_right (2 ^ k) (omega arith) in
       omega arith
@@ -144,21 +144,21 @@ module _ (n c k p j : ℕ) (r : RoundedRoot n c k) (p-lt : p < 2 ^ 53) where
       coarser l (inr e) = omega arith
 
       either : Dec (k ≤ j) → c * 2 ^ k + 2 ^ k ≤ other
-      either (yes l) = let e = split l in le_trans (step-up (p * 2 ^ (j - k)) (lt_of_lt_of_le h (le_of_eq e))) (le_of_eq (sym e))
+      either (yes l) = let e = split l in le_trans (step_up (p * 2 ^ (j - k)) (lt_of_lt_of_le h (le_of_eq e))) (le_of_eq (sym e))
       either (no g) = absurd (coarser (lt_of_not-le g) r.finest)
 
   pub below_step : other < c * 2 ^ k → (other + 2 ^ k ≤ c * 2 ^ k) ⊎ (c * 2 ^ k * (c * 2 ^ k) ≤ n)
   below_step h = either (dec_le k j)
     where
-      a-step-below : j < k → 2 ^ 52 < c → other + 2 ^ k ≤ c * 2 ^ k
-      a-step-below l g = let f : (2 ^ 52 + 1) * 2 ^ k ≤ c * 2 ^ k = mul-le-mul_right (2 ^ k) (omega arith) in let u = under l in omega arith
+      a_step_below : j < k → 2 ^ 52 < c → other + 2 ^ k ≤ c * 2 ^ k
+      a_step_below l g = let f : (2 ^ 52 + 1) * 2 ^ k ≤ c * 2 ^ k = mul-le-mul_right (2 ^ k) (omega arith) in let u = under l in omega arith
 
-      no-less-squared : c ≡ 2 ^ 52 → sq (2 ^ k) (2 ^ 52) ≤ n → c * 2 ^ k * (c * 2 ^ k) ≤ n
-      no-less-squared e g = subst (λ (x : ℕ). x * 2 ^ k * (x * 2 ^ k) ≤ n) (sym e) g
+      no_less_squared : c ≡ 2 ^ 52 → sq (2 ^ k) (2 ^ 52) ≤ n → c * 2 ^ k * (c * 2 ^ k) ≤ n
+      no_less_squared e g = subst (λ (x : ℕ). x * 2 ^ k * (x * 2 ^ k) ≤ n) (sym e) g
 
       by_digits : j < k → 2 ^ 52 ≤ c → sq (2 ^ k) (2 ^ 52) ≤ n → Dec (c ≤ 2 ^ 52) → (other + 2 ^ k ≤ c * 2 ^ k) ⊎ (c * 2 ^ k * (c * 2 ^ k) ≤ n)
-      by_digits l a b (yes g) = inr (no-less-squared (omega arith) b)
-      by_digits l a b (no g) = inl (a-step-below l (lt_of_not-le g))
+      by_digits l a b (yes g) = inr (no_less_squared (omega arith) b)
+      by_digits l a b (no g) = inl (a_step_below l (lt_of_not-le g))
 
       coarser : j < k → ((2 ^ 52 ≤ c) × (sq (2 ^ k) (2 ^ 52) ≤ n)) ⊎ (k ≡ 0) → (other + 2 ^ k ≤ c * 2 ^ k) ⊎ (c * 2 ^ k * (c * 2 ^ k) ≤ n)
       coarser l (inl f) = by_digits l f.0 f.1 (dec_le c (2 ^ 52))
@@ -174,14 +174,14 @@ module _ (n c k : ℕ) (r : RoundedRoot n c k) where
   abbrev rounded : ℕ
   rounded = c * 2 ^ k
 
-  pub nearest-above : (p j : ℕ) → p < 2 ^ 53 → rounded < p * 2 ^ j → sq (2 ^ k) (2 * c + 1) ≤ (rounded + p * 2 ^ j) * (rounded + p * 2 ^ j)
-  nearest-above p j l h =
+  pub nearest_above : (p j : ℕ) → p < 2 ^ 53 → rounded < p * 2 ^ j → sq (2 ^ k) (2 * c + 1) ≤ (rounded + p * 2 ^ j) * (rounded + p * 2 ^ j)
+  nearest_above p j l h =
       let g = above_step n c k p j r l h in
       let f : (2 * c + 1) * 2 ^ k ≤ rounded + p * 2 ^ j = omega arith in
       mul-le-mul f f
 
-  pub nearest-below : (p j : ℕ) → p < 2 ^ 53 → p * 2 ^ j < rounded → ((rounded + p * 2 ^ j) * (rounded + p * 2 ^ j) ≤ sq (2 ^ k) (2 * c - 1)) ⊎ ((rounded + p * 2 ^ j) * (rounded + p * 2 ^ j) < 4 * n)
-  nearest-below p j l h = ⊎_elim (λ g. inl (low_step g)) (λ g. inr (less g)) (below_step n c k p j r l h)
+  pub nearest_below : (p j : ℕ) → p < 2 ^ 53 → p * 2 ^ j < rounded → ((rounded + p * 2 ^ j) * (rounded + p * 2 ^ j) ≤ sq (2 ^ k) (2 * c - 1)) ⊎ ((rounded + p * 2 ^ j) * (rounded + p * 2 ^ j) < 4 * n)
+  nearest_below p j l h = ⊎_elim (λ g. inl (low_step g)) (λ g. inr (less g)) (below_step n c k p j r l h)
     where
       low_step : p * 2 ^ j + 2 ^ k ≤ rounded → (rounded + p * 2 ^ j) * (rounded + p * 2 ^ j) ≤ sq (2 ^ k) (2 * c - 1)
       low_step g = let f : rounded + p * 2 ^ j ≤ (2 * c - 1) * 2 ^ k = halves c (2 ^ k) (p * 2 ^ j) g in mul-le-mul f f
@@ -208,7 +208,7 @@ module _ (n c k : ℕ) (r : RoundedRoot n c k) where
       no_more : rounded < p * 2 ^ j → ⊥
       no_more g =
           let z = p * 2 ^ j in
-          let a = le_trans r.high (nearest-above p j l g) in
+          let a = le_trans r.high (nearest_above p j l g) in
           let b : z * rounded < z * z = mul-lt-mul_of_pos_left g (omega arith) in
           let d : rounded * rounded ≤ z * rounded = mul-le-mul_right rounded (le_of_lt g) in
           omega arith
@@ -217,15 +217,15 @@ module _ (n c k : ℕ) (r : RoundedRoot n c k) where
       either (yes g) = g
       either (no g) = absurd (no_more (lt_of_not-le g))
 
-  pub root-le : (p j : ℕ) → p < 2 ^ 53 → n ≤ p * 2 ^ j * (p * 2 ^ j) → rounded ≤ p * 2 ^ j
-  root-le p j l h = either (dec_le rounded (p * 2 ^ j))
+  pub root_le : (p j : ℕ) → p < 2 ^ 53 → n ≤ p * 2 ^ j * (p * 2 ^ j) → rounded ≤ p * 2 ^ j
+  root_le p j l h = either (dec_le rounded (p * 2 ^ j))
     where
       no_less : p * 2 ^ j < rounded → ⊥
       no_less g =
           let z = p * 2 ^ j in
           let d : z * rounded < rounded * rounded = mul-lt-mul_of_pos_right g (omega arith) in
           let b : z * z ≤ z * rounded = mul-le-mul_left z (le_of_lt g) in
-          ⊎_elim (λ a. let u = le_trans a r.low in omega arith) (λ a. omega arith) (nearest-below p j l g)
+          ⊎_elim (λ a. let u = le_trans a r.low in omega arith) (λ a. omega arith) (nearest_below p j l g)
 
       either : Dec (rounded ≤ p * 2 ^ j) → rounded ≤ p * 2 ^ j
       either (yes g) = g

@@ -35,8 +35,8 @@ module _ (s : SheetInput) where
   abbrev pub pointer : ℕ
   pointer = pointer_of s.kind (vertex_count s) (face_count s) (station_count s)
 
-  abbrev pub sheetLength : ℕ
-  sheetLength = pointer + trailer_length
+  abbrev pub sheet_size : ℕ
+  sheet_size = pointer + trailer_length
 
   -- a refused row has no numbers
   abbrev pub numbers_of : Answer Row → List Float
@@ -55,5 +55,5 @@ module _ (s : SheetInput) where
       ∷ (4, s.kind ∷ vertex_count s ∷ face_count s ∷ station_count s ∷ []) ∷ (8, bits (vector_numbers s.magnetisation)) ∷ (8, bits (vector_numbers s.ambient))
       ∷ (8, bits (volume s ∷ [])) ∷ (8, pointer ∷ []) ∷ []
 
-  unfoldable pub sheetBytes : List ℕ
-  sheetBytes = joined parts
+  unfoldable pub sheet_bytes : List ℕ
+  sheet_bytes = joined parts

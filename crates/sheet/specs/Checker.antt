@@ -15,7 +15,7 @@ use Rattle.sheet_layout.specs.LittleEndian.{number, unpack, bits, doubles}
 use Rattle.sheet_rows.specs.Kinds.{is_mesh, row_width}
 use Rattle.sheet.specs.Input.{SheetInput, station_count, row_at}
 use Rattle.sheet.specs.Bytes.{trailer_length, pointer_of, volume, numbers_of}
-use Rattle.sheet.specs.Writer.{malformed, too_many, out_of_limits, no_such_vertex, tooThin, stationCause}
+use Rattle.sheet.specs.Writer.{malformed, too_many, out_of_limits, no_such_vertex, too_thin, station_cause}
 use Rattle.sheet.specs.declared.Verdict.{Verdict}
 use Rattle.sheet.specs.declared.Verdict as verdicts
 
@@ -43,7 +43,7 @@ wrong_mate f m = first_of (length f) (λ u. unless (is_reverse f m u) WrongMate)
 
 -- 7 and 8 of a mesh, or 9 of a prism
 unfoldable pub solid_cause : SheetInput → Cause
-solid_cause s = cond (is_mesh s.kind) (or_else (mesh.degenerate_face s.vertices s.faces) (mesh.inverted s.vertices s.faces)) (tooThin s)
+solid_cause s = cond (is_mesh s.kind) (or_else (mesh.degenerate_face s.vertices s.faces) (mesh.inverted s.vertices s.faces)) (too_thin s)
 
 -- two lists are equal
 abbrev pub same_numbers : List ℕ → List ℕ → Bool
@@ -63,112 +63,112 @@ module _ (b : List ℕ) where
   abbrev pub trailer : ℕ
   trailer = length b - trailer_length
 
-  abbrev pub kindIn : ℕ
-  kindIn = number 4 b trailer
+  abbrev pub kind_in : ℕ
+  kind_in = number 4 b trailer
 
-  abbrev pub verticesIn : ℕ
-  verticesIn = number 4 b (trailer + 4)
+  abbrev pub vertices_in : ℕ
+  vertices_in = number 4 b (trailer + 4)
 
-  abbrev pub facesIn : ℕ
-  facesIn = number 4 b (trailer + 8)
+  abbrev pub faces_in : ℕ
+  faces_in = number 4 b (trailer + 8)
 
-  abbrev pub stationsIn : ℕ
-  stationsIn = number 4 b (trailer + 12)
+  abbrev pub stations_in : ℕ
+  stations_in = number 4 b (trailer + 12)
 
-  abbrev pub volumeIn : ℕ
-  volumeIn = number 8 b (trailer + 64)
+  abbrev pub volume_in : ℕ
+  volume_in = number 8 b (trailer + 64)
 
-  abbrev pub pointerIn : ℕ
-  pointerIn = number 8 b (trailer + 72)
+  abbrev pub pointer_in : ℕ
+  pointer_in = number 8 b (trailer + 72)
 
   -- what the pointer has to be by the counts
-  abbrev pub pointerFor : ℕ
-  pointerFor = pointer_of kindIn verticesIn facesIn stationsIn
+  abbrev pub pointer_for : ℕ
+  pointer_for = pointer_of kind_in vertices_in faces_in stations_in
 
   -- ---- where the parts begin; the vertices begin at 0
 
-  abbrev pub facesStart : ℕ
-  facesStart = 24 * verticesIn
+  abbrev pub faces_start : ℕ
+  faces_start = 24 * vertices_in
 
-  abbrev pub orderStart : ℕ
-  orderStart = 24 * verticesIn + 12 * facesIn
+  abbrev pub order_start : ℕ
+  order_start = 24 * vertices_in + 12 * faces_in
 
-  abbrev pub matesStart : ℕ
-  matesStart = 24 * verticesIn + 24 * facesIn
+  abbrev pub mates_start : ℕ
+  mates_start = 24 * vertices_in + 24 * faces_in
 
-  abbrev pub stationsStart : ℕ
-  stationsStart = 24 * verticesIn + 36 * facesIn
+  abbrev pub stations_start : ℕ
+  stations_start = 24 * vertices_in + 36 * faces_in
 
-  abbrev pub rowsStart : ℕ
-  rowsStart = 24 * verticesIn + 36 * facesIn + 24 * stationsIn
+  abbrev pub rows_start : ℕ
+  rows_start = 24 * vertices_in + 36 * faces_in + 24 * stations_in
 
-  abbrev pub rowLength : ℕ
-  rowLength = 8 * row_width kindIn
+  abbrev pub row_length : ℕ
+  row_length = 8 * row_width kind_in
 
-  abbrev pub rowStart : ℕ → ℕ
-  rowStart i = rowsStart + rowLength * i
+  abbrev pub row_start : ℕ → ℕ
+  row_start i = rows_start + row_length * i
 
   -- ---- what the sheet was made from
 
-  abbrev pub vectorIn : ℕ → Vector
-  vectorIn at = vertex (doubles (unpack 8 3 b at)) 0
+  abbrev pub vector_in : ℕ → Vector
+  vector_in at = vertex (doubles (unpack 8 3 b at)) 0
 
   unfoldable pub parse : SheetInput
   parse = record {
-    kind = kindIn;
-    vertices = doubles (unpack 8 (3 * verticesIn) b 0);
-    faces = unpack 4 (3 * facesIn) b facesStart;
-    magnetisation = vectorIn (trailer + 16);
-    ambient = vectorIn (trailer + 40);
-    stations = doubles (unpack 8 (3 * stationsIn) b stationsStart);
+    kind = kind_in;
+    vertices = doubles (unpack 8 (3 * vertices_in) b 0);
+    faces = unpack 4 (3 * faces_in) b faces_start;
+    magnetisation = vector_in (trailer + 16);
+    ambient = vector_in (trailer + 40);
+    stations = doubles (unpack 8 (3 * stations_in) b stations_start);
   }
 
   abbrev pub order_in : List ℕ
-  order_in = unpack 4 (3 * facesIn) b orderStart
+  order_in = unpack 4 (3 * faces_in) b order_start
 
-  abbrev pub matesIn : List ℕ
-  matesIn = unpack 4 (3 * facesIn) b matesStart
+  abbrev pub mates_in : List ℕ
+  mates_in = unpack 4 (3 * faces_in) b mates_start
 
   -- ---- the causes
 
   -- 16: under 80 bytes, or the pointer or the length is not what the counts give
-  unfoldable pub wrongLength : Cause
-  wrongLength = unless (leb trailer_length (length b) && (eqb pointerIn pointerFor && eqb (length b) (pointerFor + trailer_length))) WrongLength
+  unfoldable pub wrong_length : Cause
+  wrong_length = unless (leb trailer_length (length b) && (eqb pointer_in pointer_for && eqb (length b) (pointer_for + trailer_length))) WrongLength
 
   -- 19: the volume's bits differ
-  unfoldable pub wrongVolume : SheetInput → Cause
-  wrongVolume s = unless (eqb volumeIn (to_bits binary64 (volume s))) WrongVolume
+  unfoldable pub wrong_volume : SheetInput → Cause
+  wrong_volume s = unless (eqb volume_in (to_bits binary64 (volume s))) WrongVolume
 
   -- 20: the row's bits differ
-  unfoldable pub wrongRow : SheetInput → ℕ → Cause
-  wrongRow s i = unless (same_numbers (unpack 8 (row_width s.kind) b (rowStart i)) (bits (numbers_of s (row_at s i)))) (WrongRow i)
+  unfoldable pub wrong_row : SheetInput → ℕ → Cause
+  wrong_row s i = unless (same_numbers (unpack 8 (row_width s.kind) b (row_start i)) (bits (numbers_of s (row_at s i)))) (WrongRow i)
 
   -- 10 or 11, then 13, then 20, of station i
-  unfoldable pub checkStation : SheetInput → ℕ → Cause
-  checkStation s i = or_else (stationCause s i) (wrongRow s i)
+  unfoldable pub check_station : SheetInput → ℕ → Cause
+  check_station s i = or_else (station_cause s i) (wrong_row s i)
 
   -- the causes in document 01's order: 16, 1, 2, 3, 4, 17, 18, 7 and 8 or 9, 19, and by station 10 or 11, 13, 20
-  unfoldable pub checkerCause : Cause
-  checkerCause =
+  unfoldable pub checker_cause : Cause
+  checker_cause =
       let s = parse in
-      or_else wrongLength (or_else (malformed s) (or_else (too_many s) (or_else (out_of_limits s) (or_else (no_such_vertex s) (or_else (wrong_order s.faces order_in)
-      (or_else (wrong_mate s.faces matesIn) (or_else (solid_cause s) (or_else (wrongVolume s) (first_of (station_count s) (checkStation s))))))))))
+      or_else wrong_length (or_else (malformed s) (or_else (too_many s) (or_else (out_of_limits s) (or_else (no_such_vertex s) (or_else (wrong_order s.faces order_in)
+      (or_else (wrong_mate s.faces mates_in) (or_else (solid_cause s) (or_else (wrong_volume s) (first_of (station_count s) (check_station s))))))))))
 
   -- ---- the answer: the first of these causes, or the kind and S that stand in the trailer
 
-  unfoldable pub checkSheet : Answer (List ℕ)
-  checkSheet = or_answer checkerCause (value (kindIn ∷ stationsIn ∷ []))
+  unfoldable pub check_sheet : Answer (List ℕ)
+  check_sheet = or_answer checker_cause (value (kind_in ∷ stations_in ∷ []))
 
   -- ---- for readers
 
   -- 16, 1 and 2
-  unfoldable pub openingCause : Cause
-  openingCause = or_else wrongLength (or_else (malformed parse) (too_many parse))
+  unfoldable pub opening_cause : Cause
+  opening_cause = or_else wrong_length (or_else (malformed parse) (too_many parse))
 
   -- the rows, from the first's first byte to the trailer; nothing where 16, 1 or 2 refuses
-  unfoldable pub rowsPart : List ℕ
-  rowsPart = unless_refused openingCause (take (rowLength * stationsIn) (drop rowsStart b))
+  unfoldable pub rows_part : List ℕ
+  rows_part = unless_refused opening_cause (take (row_length * stations_in) (drop rows_start b))
 
   -- row i, and nothing past the last
-  unfoldable pub rowPart : ℕ → List ℕ
-  rowPart i = unless_refused openingCause (cond (ltb i stationsIn) (take rowLength (drop (rowStart i) b)) [])
+  unfoldable pub row_part : ℕ → List ℕ
+  row_part i = unless_refused opening_cause (cond (ltb i stations_in) (take row_length (drop (row_start i) b)) [])

@@ -21,8 +21,8 @@ use Rattle.sheet_rows.specs.Kinds.{is_mesh, is_prism}
 use Rattle.sheet_rows.specs.Row.{row_numbers}
 use Rattle.sheet_rows.specs.declared.Row.{Row}
 use Rattle.sheet.specs.Input.{SheetInput, vertex_count, face_count, station_count, row_at}
-use Rattle.sheet.specs.Bytes.{volume, sheetLength, sheetBytes}
-use Rattle.sheet.specs.Checker.{trailer, kindIn, verticesIn, facesIn, stationsIn, volumeIn, stationsStart, rowStart, rowLength, parse, checkerCause}
+use Rattle.sheet.specs.Bytes.{volume, sheet_size, sheet_bytes}
+use Rattle.sheet.specs.Checker.{trailer, kind_in, vertices_in, faces_in, stations_in, volume_in, stations_start, row_start, row_length, parse, checker_cause}
 
 -- ---- no cause of refusal
 
@@ -63,7 +63,7 @@ pub record NoCause (s : SheetInput) (w o : ℕ) : Type 0 where
   pub stations : station_count s ≤ max_stations
   -- 12
   pub work : length s.faces ≤ w
-  pub out : sheetLength s ≤ o
+  pub out : sheet_size s ≤ o
   -- 3
   pub vertex-numbers : AllInLimits s.vertices
   pub magnetisation : VectorInLimits s.magnetisation
@@ -90,29 +90,29 @@ pub record NoCause (s : SheetInput) (w o : ℕ) : Type 0 where
 pub record RowStored (b : List ℕ) (i : ℕ) : Type 0 where
   pub row : Row
   pub given : row_at (parse b) i ≡ value row
-  pub stored : take (rowLength b) (drop (rowStart b i) b) ≡ pack 8 (bits (row_numbers (kindIn b) row))
+  pub stored : take (row_length b) (drop (row_start b i) b) ≡ pack 8 (bits (row_numbers (kind_in b) row))
 
 -- b was accepted with kind k and S = n
 pub record Right (b : List ℕ) (k n : ℕ) : Type 0 where
-  pub kind : k ≡ kindIn b
-  pub stations : n ≡ stationsIn b
+  pub kind : k ≡ kind_in b
+  pub stations : n ≡ stations_in b
   -- each edge occurs exactly once among the 3F uses, and its reverse exactly once
   pub closed : Closed (parse b).faces
-  pub normals : (j : ℕ) → j < facesIn b → surface.is_zero (surface.normal (parse b).vertices (parse b).faces j) ≡ false
+  pub normals : (j : ℕ) → j < faces_in b → surface.is_zero (surface.normal (parse b).vertices (parse b).faces j) ≡ false
   -- the volume is the computed one, and above 0, for both kinds
-  pub measured : volumeIn b ≡ to_bits binary64 (volume (parse b))
+  pub measured : volume_in b ≡ to_bits binary64 (volume (parse b))
   pub positive : lt 0·0 (volume (parse b)) ≡ true
   -- each row is the definition's
   pub rows : (i : ℕ) → i < n → RowStored b i
   -- in every byte it is the sheet of what it holds, of which no cause of refusal holds
-  pub whole : b ≡ sheetBytes (parse b)
+  pub whole : b ≡ sheet_bytes (parse b)
   pub sound : NoCause (parse b) (length (parse b).faces) (length b)
 
 -- two sheets agree bit for bit in kind, V, F, S, magnetisation and ambient field (the trailer's first 64 bytes), in vertices and faces, and in the stations
 pub record SameGiven (b c : List ℕ) : Type 0 where
   pub header : take 64 (drop (trailer b) b) ≡ take 64 (drop (trailer c) c)
-  pub body : take (24 * verticesIn b + 12 * facesIn b) b ≡ take (24 * verticesIn c + 12 * facesIn c) c
-  pub stations : take (24 * stationsIn b) (drop (stationsStart b) b) ≡ take (24 * stationsIn c) (drop (stationsStart c) c)
+  pub body : take (24 * vertices_in b + 12 * faces_in b) b ≡ take (24 * vertices_in c + 12 * faces_in c) c
+  pub stations : take (24 * stations_in b) (drop (stations_start b) b) ≡ take (24 * stations_in c) (drop (stations_start c) c)
 
 -- ---- a written sheet
 
@@ -135,5 +135,5 @@ pub record Kept (s : SheetInput) (b : List ℕ) : Type 0 where
       take 64 (drop (trailer b) b)
       ≡ pack 4 (s.kind ∷ vertex_count s ∷ face_count s ∷ station_count s ∷ []) ++ pack 8 (bits (vector_numbers s.magnetisation)) ++ pack 8 (bits (vector_numbers s.ambient))
   pub body : take (24 * vertex_count s + 12 * face_count s) b ≡ pack 8 (bits s.vertices) ++ pack 4 s.faces
-  pub stations : take (24 * station_count s) (drop (stationsStart b) b) ≡ pack 8 (bits s.stations)
-  pub accepted : checkerCause b ≡ None
+  pub stations : take (24 * station_count s) (drop (stations_start b) b) ≡ pack 8 (bits s.stations)
+  pub accepted : checker_cause b ≡ None

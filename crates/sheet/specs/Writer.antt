@@ -16,7 +16,7 @@ use Rattle.prism.specs.Prism.{sides_within_limits}
 use Rattle.sheet_rows.specs.Kinds.{is_mesh, known_kind, within_counts}
 use Rattle.sheet_rows.specs.Row.{row_cause}
 use Rattle.sheet.specs.Input.{SheetInput, vertex_count, face_count, station_count, row_at}
-use Rattle.sheet.specs.Bytes.{sheetLength, sheetBytes}
+use Rattle.sheet.specs.Bytes.{sheet_size, sheet_bytes}
 
 -- "out" is the lent sheet, a term of document 01: after 10, 11 and 13 the sheet's length in it is zeroed, after every other refusal it is as it was
 abbrev pub zeroes_out : Refusal → Bool
@@ -34,7 +34,7 @@ module _ (s : SheetInput) where
 
   -- 12: work is shorter than 3F, or out than the sheet
   unfoldable pub too_short : ℕ → ℕ → Cause
-  too_short w o = unless (leb (length s.faces) w && leb (sheetLength s) o) TooShort
+  too_short w o = unless (leb (length s.faces) w && leb (sheet_size s) o) TooShort
 
   -- 3: a number that is not finite, or over 10⁹
   unfoldable pub out_of_limits : Cause
@@ -47,23 +47,23 @@ module _ (s : SheetInput) where
   no_such_vertex = mesh.no_such_vertex (vertex_count s) s.faces
 
   -- 9: a prism's side below 10⁻⁶
-  unfoldable pub tooThin : Cause
-  tooThin = unless (sides_within_limits (vertex s.vertices 0) (vertex s.vertices 1)) TooThin
+  unfoldable pub too_thin : Cause
+  too_thin = unless (sides_within_limits (vertex s.vertices 0) (vertex s.vertices 1)) TooThin
 
   -- 5, 6, 7 and 8 of a mesh, or 9 of a prism
-  unfoldable pub bodyCause : Cause
-  bodyCause = cond (is_mesh s.kind) (mesh.order_cause s.vertices s.faces (order_list s.faces)) tooThin
+  unfoldable pub body_cause : Cause
+  body_cause = cond (is_mesh s.kind) (mesh.order_cause s.vertices s.faces (order_list s.faces)) too_thin
 
   -- 10 or 11, then 13, of station i
-  unfoldable pub stationCause : ℕ → Cause
-  stationCause i = row_cause s.kind i (row_at s i)
+  unfoldable pub station_cause : ℕ → Cause
+  station_cause i = row_cause s.kind i (row_at s i)
 
   -- the causes in document 01's order: 1, 2, 12, 3, 4, the body's, and by station 10 or 11, 13
-  unfoldable pub writerCause : ℕ → ℕ → Cause
-  writerCause w o =
-      or_else malformed (or_else too_many (or_else (too_short w o) (or_else out_of_limits (or_else no_such_vertex (or_else bodyCause (first_of (station_count s) stationCause))))))
+  unfoldable pub writer_cause : ℕ → ℕ → Cause
+  writer_cause w o =
+      or_else malformed (or_else too_many (or_else (too_short w o) (or_else out_of_limits (or_else no_such_vertex (or_else body_cause (first_of (station_count s) station_cause))))))
 
   -- the bytes of out, which were o; those past the sheet never change
-  unfoldable pub outAfter : Cause → List ℕ → List ℕ
-  outAfter None o = sheetBytes s ++ drop (sheetLength s) o
-  outAfter (Refused r) o = cond (zeroes_out r) (replicate (sheetLength s) 0 ++ drop (sheetLength s) o) o
+  unfoldable pub out_after : Cause → List ℕ → List ℕ
+  out_after None o = sheet_bytes s ++ drop (sheet_size s) o
+  out_after (Refused r) o = cond (zeroes_out r) (replicate (sheet_size s) 0 ++ drop (sheet_size s) o) o

@@ -20,8 +20,8 @@ use Rattle.prism.specs.Prism.{sides_within_limits, prism_volume}
 use Rattle.sheet_rows.specs.Kinds.{is_mesh}
 use Rattle.sheet.specs.Input.{SheetInput}
 use Rattle.sheet.specs.Bytes.{volume}
-use Rattle.sheet.specs.Writer.{tooThin}
-use Rattle.sheet_laws.specs.WriterLaws.{surface-cause, prism-cause}
+use Rattle.sheet.specs.Writer.{too_thin}
+use Rattle.sheet_laws.specs.WriterLaws.{surface_cause_lem, prism-cause}
 use Rattle.sheet_body.specs.BodyChecked.{check_body_cause, BodyChecked}
 
 -- without faces there is no order list
@@ -36,13 +36,13 @@ thin_work true f w n = sym (no_order f w n)
 thin_work false f w n = refl
 
 module _ (s : SheetInput) where
-  pub mesh-checked : {w m p q : List ℕ} {r : Solid} → is_mesh s.kind ≡ true → r ≡ solid_of (surface_cause s.vertices s.faces) (surface.volume s.vertices s.faces)
+  pub mesh_checked : {w m p q : List ℕ} {r : Solid} → is_mesh s.kind ≡ true → r ≡ solid_of (surface_cause s.vertices s.faces) (surface.volume s.vertices s.faces)
       → p ≡ work_after (surface_cause s.vertices s.faces) s.faces w → q ≡ mates_after (surface_cause s.vertices s.faces) s.faces m → BodyChecked s w m r p q
   unfolding volume
-  mesh-checked {w = w} {m = m} e a h k = record {
-    answer = a ∙ rw e (ap (λ (c : Cause). solid_of c (surface.volume s.vertices s.faces)) (sym (surface-cause s e)));
-    work = h ∙ ap (λ (c : Cause). work_after c s.faces w) (sym (surface-cause s e));
-    mates = k ∙ ap (λ (c : Cause). mates_after c s.faces m) (sym (surface-cause s e));
+  mesh_checked {w = w} {m = m} e a h k = record {
+    answer = a ∙ rw e (ap (λ (c : Cause). solid_of c (surface.volume s.vertices s.faces)) (sym (surface_cause_lem s e)));
+    work = h ∙ ap (λ (c : Cause). work_after c s.faces w) (sym (surface_cause_lem s e));
+    mates = k ∙ ap (λ (c : Cause). mates_after c s.faces m) (sym (surface_cause_lem s e));
   }
 
   module _ (e : is_mesh s.kind ≡ false) (n : length s.faces ≡ 0) where
@@ -53,15 +53,15 @@ module _ (s : SheetInput) where
     hi = vertex s.vertices 1
 
     thin : unless (sides_within_limits lo hi) TooThin ≡ check_body_cause s
-    unfolding tooThin
+    unfolding too_thin
     thin = sym (prism-cause s e n)
 
     measured : prism_volume lo hi ≡ volume s
     unfolding volume
     measured = rw e
 
-    pub prism-checked : (w m : List ℕ) {r : Solid} → length m ≡ 4 * length s.faces → r ≡ solid_of (unless (sides_within_limits lo hi) TooThin) (prism_volume lo hi) → BodyChecked s w m r w m
-    prism-checked w m z a = record {
+    pub prism_checked : (w m : List ℕ) {r : Solid} → length m ≡ 4 * length s.faces → r ≡ solid_of (unless (sides_within_limits lo hi) TooThin) (prism_volume lo hi) → BodyChecked s w m r w m
+    prism_checked w m z a = record {
       answer = a ∙ ap₂ solid_of thin measured;
       work = thin_work (sides_within_limits lo hi) s.faces w n ∙ ap (λ (c : Cause). work_after c s.faces w) thin;
       mates = no_bytes (check_body_cause s) s.faces m (omega (arith, n));

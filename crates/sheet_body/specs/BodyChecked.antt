@@ -7,11 +7,11 @@ use Rattle.mesh.specs.declared.Solid.{Solid}
 use Rattle.mesh_check.specs.CheckedMates.{mates_after}
 use Rattle.sheet.specs.Input.{SheetInput}
 use Rattle.sheet.specs.Bytes.{volume}
-use Rattle.sheet.specs.Writer.{no_such_vertex, bodyCause}
+use Rattle.sheet.specs.Writer.{no_such_vertex, body_cause}
 
 -- 4, then 5, 6, 7 and 8 of a mesh, or 9 of a prism
 abbrev pub check_body_cause : SheetInput → Cause
-check_body_cause s = or_else (no_such_vertex s) (bodyCause s)
+check_body_cause s = or_else (no_such_vertex s) (body_cause s)
 
 -- the answer is r; work, which was w, has become p, and the bytes for the mates, which were m, have become q
 pub record BodyChecked (s : SheetInput) (w m : List ℕ) (r : Solid) (p q : List ℕ) : Type 0 where

@@ -14,117 +14,117 @@ use Rattle.refusals.specs.declared.Cause.TheVariants.{None, Refused}
 use Rattle.refusals.proofs.Causes.{both}
 use Rattle.lists.proofs.Numbers.{below?}
 use Rattle.sheet.specs.Writer.{malformed, too_many}
-use Rattle.sheet.specs.Checker.{stationsIn, rowsStart, rowStart, rowLength, parse, wrongLength, checkerCause, openingCause, rowsPart, rowPart}
-use Rattle.sheet_readers.proofs.Opening.{opened, no_rows, no_row, past-rows}
-use Rattle.sheet_handle.specs.RowAfterRow.{rowCount, nextRow, afterMoves, partAfter, joinedParts, RowAfterRow}
+use Rattle.sheet.specs.Checker.{stations_in, rows_start, row_start, row_length, parse, wrong_length, checker_cause, opening_cause, rows_part, row_part}
+use Rattle.sheet_readers.proofs.Opening.{opened, no_rows, no_row, past_rows}
+use Rattle.sheet_handle.specs.RowAfterRow.{row_count, next_row_of, after_moves, part_after, joined_parts, RowAfterRow}
 
 module _ (b : List ℕ) where
   -- ---- where the handle stands
 
-  pub next-below : (i : ℕ) → i < rowCount b → nextRow b i ≡ i + 1
-  unfolding nextRow
-  next-below i h = rw (lt-ltb i (rowCount b) h)
+  pub next-below : (i : ℕ) → i < row_count b → next_row_of b i ≡ i + 1
+  unfolding next_row_of
+  next-below i h = rw (lt-ltb i (row_count b) h)
 
-  pub next_past : (i : ℕ) → rowCount b ≤ i → nextRow b i ≡ i
-  unfolding nextRow
-  next_past i h = rw (le-ltb i (rowCount b) h)
+  pub next_past : (i : ℕ) → row_count b ≤ i → next_row_of b i ≡ i
+  unfolding next_row_of
+  next_past i h = rw (le-ltb i (row_count b) h)
 
-  pub no_move : afterMoves b 0 ≡ 0
-  unfolding afterMoves
+  pub no_move : after_moves b 0 ≡ 0
+  unfolding after_moves
   no_move = refl
 
-  pub after-move : (n : ℕ) → afterMoves b (n + 1) ≡ nextRow b (afterMoves b n)
-  unfolding afterMoves
-  after-move n = ap (afterMoves b) (add-one n)
+  pub after_move : (n : ℕ) → after_moves b (n + 1) ≡ next_row_of b (after_moves b n)
+  unfolding after_moves
+  after_move n = ap (after_moves b) (add-one n)
 
-  stands : (n : ℕ) → n ≤ rowCount b → afterMoves b n ≡ n
-  unfolding afterMoves
+  stands : (n : ℕ) → n ≤ row_count b → after_moves b n ≡ n
+  unfolding after_moves
   stands zero h = refl
-  stands (suc n) h = ap (nextRow b) (stands n (omega arith)) ∙ next-below n (omega arith) ∙ add-one n
+  stands (suc n) h = ap (next_row_of b) (stands n (omega arith)) ∙ next-below n (omega arith) ∙ add-one n
 
-  stays : (n : ℕ) → rowCount b ≤ n → afterMoves b n ≡ rowCount b
-  unfolding afterMoves
+  stays : (n : ℕ) → row_count b ≤ n → after_moves b n ≡ row_count b
+  unfolding after_moves
   stays zero h = omega arith
   stays (suc n) h =
-      ⊎_elim (λ l. let e : suc n ≡ rowCount b = omega arith in stands (suc n) (omega arith) ∙ e)
-      (λ g. ap (nextRow b) (stays n g) ∙ next_past (rowCount b) (omega arith)) (below? n (rowCount b))
+      ⊎_elim (λ l. let e : suc n ≡ row_count b = omega arith in stands (suc n) (omega arith) ∙ e)
+      (λ g. ap (next_row_of b) (stays n g) ∙ next_past (row_count b) (omega arith)) (below? n (row_count b))
 
   -- ---- the parts, where 16, 1 and 2 let the bytes through
 
-  module _ (e : openingCause b ≡ None) where
-    pub counted : rowCount b ≡ stationsIn b
-    unfolding rowCount
+  module _ (e : opening_cause b ≡ None) where
+    pub counted : row_count b ≡ stations_in b
+    unfolding row_count
     counted = rw e
 
-    row_is : (i : ℕ) → i < stationsIn b → rowPart b i ≡ take (rowLength b) (drop (rowStart b i) b)
-    unfolding rowPart
-    row_is i h = rw (e, lt-ltb i (stationsIn b) h)
+    row_is : (i : ℕ) → i < stations_in b → row_part b i ≡ take (row_length b) (drop (row_start b i) b)
+    unfolding row_part
+    row_is i h = rw (e, lt-ltb i (stations_in b) h)
 
-    full-row : (i : ℕ) → i < stationsIn b → length (rowPart b i) ≡ rowLength b
+    full-row : (i : ℕ) → i < stations_in b → length (row_part b i) ≡ row_length b
     full-row i h =
         let o = opened b e in
-        rw (row_is i h) (length-take-le (rowLength b) (drop (rowStart b i) b) (simp length-drop (omega (arith, o.whole))))
+        rw (row_is i h) (length-take-le (row_length b) (drop (row_start b i) b) (simp length-drop (omega (arith, o.whole))))
 
-    joined_is : (n : ℕ) → n ≤ stationsIn b → joinedParts b n ≡ take (rowLength b * n) (drop (rowsStart b) b)
-    unfolding joinedParts
+    joined_is : (n : ℕ) → n ≤ stations_in b → joined_parts b n ≡ take (row_length b * n) (drop (rows_start b) b)
+    unfolding joined_parts
     joined_is zero h = refl
     joined_is (suc n) h =
-        let m : rowLength b * suc n ≡ rowLength b * n + rowLength b = omega arith in
-        let s : afterMoves b n ≡ n = stands n (omega (arith, counted)) in
-        rw (m, take-add (rowLength b * n), drop-drop, s, row_is n (omega arith), joined_is n (omega arith))
+        let m : row_length b * suc n ≡ row_length b * n + row_length b = omega arith in
+        let s : after_moves b n ≡ n = stands n (omega (arith, counted)) in
+        rw (m, take-add (row_length b * n), drop-drop, s, row_is n (omega arith), joined_is n (omega arith))
 
-    all-joined : joinedParts b (rowCount b) ≡ rowsPart b
-    unfolding rowsPart
-    all-joined = ap (joinedParts b) counted ∙ rw e (joined_is (stationsIn b) (omega arith))
+    all-joined : joined_parts b (row_count b) ≡ rows_part b
+    unfolding rows_part
+    all-joined = ap (joined_parts b) counted ∙ rw e (joined_is (stations_in b) (omega arith))
 
-  accepted : checkerCause b ≡ None → rowCount b ≡ stationsIn b
-  unfolding checkerCause openingCause
+  accepted : checker_cause b ≡ None → row_count b ≡ stations_in b
+  unfolding checker_cause opening_cause
   accepted e =
-      let l = both (wrongLength b) _ e in
+      let l = both (wrong_length b) _ e in
       let m = both (malformed (parse b)) _ l.1 in
       let t = both (too_many (parse b)) _ m.1 in
       counted (rw (l.0, m.0) t.0)
 
   -- ---- and where one of them refuses
 
-  pub no-count : (r : Refusal) → openingCause b ≡ Refused r → rowCount b ≡ 0
-  unfolding rowCount
-  no-count r e = rw e
+  pub no_count : (r : Refusal) → opening_cause b ≡ Refused r → row_count b ≡ 0
+  unfolding row_count
+  no_count r e = rw e
 
-  nothing-joined : (r : Refusal) → openingCause b ≡ Refused r → joinedParts b (rowCount b) ≡ rowsPart b
-  unfolding joinedParts
-  nothing-joined r e = rw (no-count r e) (no_rows b r e)
+  nothing_joined : (r : Refusal) → opening_cause b ≡ Refused r → joined_parts b (row_count b) ≡ rows_part b
+  unfolding joined_parts
+  nothing_joined r e = rw (no_count r e) (no_rows b r e)
 
   -- ---- in both cases
 
-  full : (c : Cause) → openingCause b ≡ c → (n : ℕ) → n < rowCount b → length (rowPart b n) ≡ rowLength b
+  full : (c : Cause) → opening_cause b ≡ c → (n : ℕ) → n < row_count b → length (row_part b n) ≡ row_length b
   full None e n h = full-row e n (omega (arith, counted e))
-  full (Refused r) e n h = absurd (omega (arith, no-count r e))
+  full (Refused r) e n h = absurd (omega (arith, no_count r e))
 
-  past : (c : Cause) → openingCause b ≡ c → (n : ℕ) → rowCount b ≤ n → rowPart b n ≡ []
-  past None e n h = sym (past-rows b n e (omega (arith, counted e)))
+  past : (c : Cause) → opening_cause b ≡ c → (n : ℕ) → row_count b ≤ n → row_part b n ≡ []
+  past None e n h = sym (past_rows b n e (omega (arith, counted e)))
   past (Refused r) e n h = sym (no_row b n r e)
 
-  joined : (c : Cause) → openingCause b ≡ c → joinedParts b (rowCount b) ≡ rowsPart b
+  joined : (c : Cause) → opening_cause b ≡ c → joined_parts b (row_count b) ≡ rows_part b
   joined None e = all-joined e
-  joined (Refused r) e = nothing-joined r e
+  joined (Refused r) e = nothing_joined r e
 
-  pub past-last : (n : ℕ) → rowCount b ≤ n → rowPart b n ≡ []
-  past-last n h = past (openingCause b) refl n h
+  pub past_last : (n : ℕ) → row_count b ≤ n → row_part b n ≡ []
+  past_last n h = past (opening_cause b) refl n h
 
-  empty : (n : ℕ) → rowCount b ≤ n → partAfter b n ≡ []
-  empty n h = ap (rowPart b) (stays n h) ∙ past-last (rowCount b) (omega arith)
+  empty : (n : ℕ) → row_count b ≤ n → part_after b n ≡ []
+  empty n h = ap (row_part b) (stays n h) ∙ past_last (row_count b) (omega arith)
 
-  pub numbered : (n : ℕ) → partAfter b n ≡ rowPart b n
-  numbered n = ⊎_elim (λ l. ap (rowPart b) (stands n (omega arith))) (λ g. empty n g ∙ sym (past-last n g)) (below? n (rowCount b))
+  pub numbered : (n : ℕ) → part_after b n ≡ row_part b n
+  numbered n = ⊎_elim (λ l. ap (row_part b) (stands n (omega arith))) (λ g. empty n g ∙ sym (past_last n g)) (below? n (row_count b))
 
 pub row_after-row : (b : List ℕ) → RowAfterRow b
 row_after-row b = record {
   accepted = accepted b;
   stands = stands b;
   stays = stays b;
-  full = λ n h. rw (stands b n (omega arith)) (full b (openingCause b) refl n h);
+  full = λ n h. rw (stands b n (omega arith)) (full b (opening_cause b) refl n h);
   empty = empty b;
-  joined = joined b (openingCause b) refl;
+  joined = joined b (opening_cause b) refl;
   numbered = numbered b;
 }

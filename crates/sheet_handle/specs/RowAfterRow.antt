@@ -3,7 +3,7 @@
 use Rattle.std.specs.Prelude.{◌≡◌, cond, List, [], ◌++◌, ℕ, zero, suc, ◌+◌, ◌≤◌, ◌<◌, ltb, length}
 use Rattle.refusals.specs.declared.Cause.{Cause}
 use Rattle.refusals.specs.declared.Cause.TheVariants.{None, Refused}
-use Rattle.sheet.specs.Checker.{stationsIn, rowLength, checkerCause, openingCause, rowsPart, rowPart}
+use Rattle.sheet.specs.Checker.{stations_in, row_length, checker_cause, opening_cause, rows_part, row_part}
 
 -- no rows, where a cause refuses
 abbrev pub none_if_refused : Cause → ℕ → ℕ
@@ -12,35 +12,35 @@ none_if_refused (Refused r) n = 0
 
 module _ (b : List ℕ) where
   -- how many rows readers are handed: S as the trailer has it, and none where 16, 1 or 2 refuses
-  unfoldable pub rowCount : ℕ
-  rowCount = none_if_refused (openingCause b) (stationsIn b)
+  unfoldable pub row_count : ℕ
+  row_count = none_if_refused (opening_cause b) (stations_in b)
 
   -- the number after i; the one past the last row has none after it, and the handle stays there
-  unfoldable pub nextRow : ℕ → ℕ
-  nextRow i = cond (ltb i rowCount) (i + 1) i
+  unfoldable pub next_row_of : ℕ → ℕ
+  next_row_of i = cond (ltb i row_count) (i + 1) i
 
   -- where the handle stands after n moves from the first row
-  unfoldable pub afterMoves : ℕ → ℕ
-  afterMoves zero = 0
-  afterMoves (suc n) = nextRow (afterMoves n)
+  unfoldable pub after_moves : ℕ → ℕ
+  after_moves zero = 0
+  after_moves (suc n) = next_row_of (after_moves n)
 
   -- the part that it gives there
-  abbrev pub partAfter : ℕ → List ℕ
-  partAfter n = rowPart b (afterMoves n)
+  abbrev pub part_after : ℕ → List ℕ
+  part_after n = row_part b (after_moves n)
 
   -- the first n parts that it gives, joined
-  unfoldable pub joinedParts : ℕ → List ℕ
-  joinedParts zero = []
-  joinedParts (suc n) = joinedParts n ++ partAfter n
+  unfoldable pub joined_parts : ℕ → List ℕ
+  joined_parts zero = []
+  joined_parts (suc n) = joined_parts n ++ part_after n
 
 -- row after row from the first, the handle gives exactly as many parts as there are rows, each a whole row, and then only empty ones; joined they are the rows
 pub record RowAfterRow (b : List ℕ) : Type 0 where
   -- of a sheet that the checker accepts there are S
-  pub accepted : checkerCause b ≡ None → rowCount b ≡ stationsIn b
-  pub stands : (n : ℕ) → n ≤ rowCount b → afterMoves b n ≡ n
-  pub stays : (n : ℕ) → rowCount b ≤ n → afterMoves b n ≡ rowCount b
-  pub full : (n : ℕ) → n < rowCount b → length (partAfter b n) ≡ rowLength b
-  pub empty : (n : ℕ) → rowCount b ≤ n → partAfter b n ≡ []
-  pub joined : joinedParts b (rowCount b) ≡ rowsPart b
+  pub accepted : checker_cause b ≡ None → row_count b ≡ stations_in b
+  pub stands : (n : ℕ) → n ≤ row_count b → after_moves b n ≡ n
+  pub stays : (n : ℕ) → row_count b ≤ n → after_moves b n ≡ row_count b
+  pub full : (n : ℕ) → n < row_count b → length (part_after b n) ≡ row_length b
+  pub empty : (n : ℕ) → row_count b ≤ n → part_after b n ≡ []
+  pub joined : joined_parts b (row_count b) ≡ rows_part b
   -- by number it is the same part
-  pub numbered : (n : ℕ) → partAfter b n ≡ rowPart b n
+  pub numbered : (n : ℕ) → part_after b n ≡ row_part b n

@@ -3,8 +3,8 @@
 #![tactic(auto)]
 
 ghost use Rattle.std.specs.Prelude.{◌≡◌};
-ghost use Rattle.sheet.specs.Checker.{rowPart};
-ghost use Rattle.sheet_handle.specs.RowAfterRow.{rowCount, nextRow, partAfter};
+ghost use Rattle.sheet.specs.Checker.{row_part};
+ghost use Rattle.sheet_handle.specs.RowAfterRow.{row_count, next_row_of, part_after};
 
 use refusals::Cause;
 
@@ -17,7 +17,7 @@ pub struct Rows<'a> {
 
 // How many rows readers are handed: none where 16, 1 or 2 refuses.
 pub fn row_count(sheet: &[u8]) -> usize
-    ensures { result ≡ rowCount sheet.now }
+    ensures { result ≡ row_count sheet.now }
 {
     let opening = sheet_readers::opening_cause(sheet);
     if let Cause::Refused(_) = opening {
@@ -28,7 +28,7 @@ pub fn row_count(sheet: &[u8]) -> usize
 
 // The number after `at`; past the last row it stays, so that no number overflows.
 pub fn next_row(sheet: &[u8], at: usize) -> usize
-    ensures { result ≡ nextRow sheet.now at }
+    ensures { result ≡ next_row_of sheet.now at }
 {
     if at < row_count(sheet) {
         return at + 1;
@@ -46,14 +46,14 @@ pub fn new<'a>(sheet: &'a [u8]) -> Rows<'a>
 // The row at which it stands, as a part of the sheet; nothing past the last, or where 16, 1 or 2
 // refuses.
 pub fn row<'a>(h: Rows<'a>) -> &'a [u8]
-    ensures { result.now ≡ rowPart h.entry.sheet.now h.entry.at }
+    ensures { result.now ≡ row_part h.entry.sheet.now h.entry.at }
 {
     sheet_readers::sheet_row(h.sheet, h.at)
 }
 
 // The handle at the next row.
 pub fn next<'a>(h: Rows<'a>) -> Rows<'a>
-    ensures { (result.sheet ≡ h.entry.sheet) × (result.at ≡ nextRow h.entry.sheet.now h.entry.at) }
+    ensures { (result.sheet ≡ h.entry.sheet) × (result.at ≡ next_row_of h.entry.sheet.now h.entry.at) }
 {
     let at = next_row(h.sheet, h.at);
     Rows { sheet: h.sheet, at }
@@ -61,7 +61,7 @@ pub fn next<'a>(h: Rows<'a>) -> Rows<'a>
 
 // The row at which the handle stands after n moves from the first.
 fn row_after(sheet: &[u8], n: usize) -> &[u8]
-    ensures { result.now ≡ partAfter sheet.now n }
+    ensures { result.now ≡ part_after sheet.now n }
 {
     let mut h = new(sheet);
     let mut i = 0;
@@ -75,7 +75,7 @@ fn row_after(sheet: &[u8], n: usize) -> &[u8]
 // Row n, by n moves of the handle: for callers that hold no handle. Nothing past the last, or where
 // 16, 1 or 2 refuses.
 pub fn nth_row(sheet: &[u8], n: usize) -> &[u8]
-    ensures { result.now ≡ rowPart sheet.now n }
+    ensures { result.now ≡ row_part sheet.now n }
 {
     if row_count(sheet) <= n {
         return &sheet[0..0];

@@ -24,7 +24,7 @@ use Rattle.mesh.specs.Surface.{vertex, normal, is_zero}
 use Rattle.mesh.specs.Check as mesh
 use Rattle.mesh.specs.Check.{faces_cause}
 use Rattle.mesh.specs.Accepted.{Counted, Closed}
-use Rattle.mesh.specs.CauseLaws.{is_body, none-degenerate, none-inverted}
+use Rattle.mesh.specs.CauseLaws.{is_body, none_degenerate, none-inverted}
 use Rattle.mesh_laws.specs.ClosedLaws.{closed_pairs}
 use Rattle.sheet_layout.specs.LittleEndian.{pack, unpack, bits, doubles, IsBytes}
 use Rattle.sheet_layout.specs.Parts.{Part, joined}
@@ -37,14 +37,14 @@ use Rattle.sheet_rows.specs.Row.{row_numbers}
 use Rattle.sheet_rows.specs.declared.Row.{Row}
 use Rattle.newtonian.specs.Vectors.{vector_numbers}
 use Rattle.sheet.specs.Input.{SheetInput, vertex_count, face_count, station_count, row_at}
-use Rattle.sheet.specs.Bytes.{pointer, volume, sheetLength, numbers_of, rows, parts, sheetBytes}
-use Rattle.sheet.specs.Writer.{malformed, too_many, out_of_limits, no_such_vertex, bodyCause, stationCause, writerCause}
-use Rattle.sheet.specs.Checker.{trailer, kindIn, verticesIn, facesIn, stationsIn, volumeIn, pointerIn, pointerFor, stationsStart, rowsStart, rowLength, rowStart, vectorIn, parse, order_in, matesIn, wrong_order, wrong_mate, solid_cause, wrongLength, wrongVolume, wrongRow, checkStation, checkerCause}
+use Rattle.sheet.specs.Bytes.{pointer, volume, sheet_size, numbers_of, rows, parts, sheet_bytes}
+use Rattle.sheet.specs.Writer.{malformed, too_many, out_of_limits, no_such_vertex, body_cause, station_cause, writer_cause}
+use Rattle.sheet.specs.Checker.{trailer, kind_in, vertices_in, faces_in, stations_in, volume_in, pointer_in, pointer_for, stations_start, rows_start, row_length, row_start, vector_in, parse, order_in, mates_in, wrong_order, wrong_mate, solid_cause, wrong_length, wrong_volume, wrong_row, check_station, checker_cause}
 use Rattle.sheet.specs.Promises.{AllInLimits, VectorInLimits, KindKnown, NoCause, RowStored, Right}
-use Rattle.sheet_laws.specs.WriterLaws.{two_kinds, no_cause, none-malformed, none-limits-all, none-vertex-all, none-station, short_none, counted, body-mesh}
+use Rattle.sheet_laws.specs.WriterLaws.{two_kinds, no_cause, none-malformed, none_limits_all, none-vertex-all, none-station, short_none, counted, body-mesh}
 use Rattle.sheet_laws.specs.PrismVolume.{prism-positive}
 use Rattle.sheet_laws.specs.OrderAndMates.{is-order, is-mates, is-closed}
-use Rattle.sheet_laws.specs.Reading.{plan, placed, plan-split, kind-read, vertices-read, faces-read, stations-read, order-in-length, mates-in-length, pointer_read, none-length, same_list, rows_join}
+use Rattle.sheet_laws.specs.Reading.{plan, placed, plan-split, kind_read, vertices_read, faces_read, stations_read, order_in-length, mates_in-length, pointer_read, none-length, same_list, rows_join}
 
 -- ---- 7 and 8 of a mesh are those of `check_mesh`, in its order
 
@@ -64,7 +64,7 @@ limited_bits : (b : List ℕ) (n i : ℕ) → IsBytes b → AllInLimits (doubles
 limited_bits b n i B h =
     bits-doubles (unpack 8 n b i) (unpack-lt 8 n b i B (omega arith)) (λ j l. no_nan (get_or (doubles (unpack 8 n b i)) j nan) (h j (rw length-map l)))
 
-vector-bits : (b : List ℕ) (i : ℕ) → IsBytes b → VectorInLimits (vectorIn b i) → bits (vector_numbers (vectorIn b i)) ≡ unpack 8 3 b i
+vector-bits : (b : List ℕ) (i : ℕ) → IsBytes b → VectorInLimits (vector_in b i) → bits (vector_numbers (vector_in b i)) ≡ unpack 8 3 b i
 unfolding unpack
 vector-bits b i B h = limited_bits b 3 i B each-entry
   where
@@ -77,61 +77,61 @@ vector-bits b i B h = limited_bits b 3 i B each-entry
 -- ---- the causes, one by one
 
 pub record Passed (b : List ℕ) : Type 0 where
-  pub length_fits : wrongLength b ≡ None
+  pub length_fits : wrong_length b ≡ None
   pub is_well_formed : malformed (parse b) ≡ None
   pub few : too_many (parse b) ≡ None
   pub is_in_limits : out_of_limits (parse b) ≡ None
   pub corners : no_such_vertex (parse b) ≡ None
   pub order : wrong_order (parse b).faces (order_in b) ≡ None
-  pub mate : wrong_mate (parse b).faces (matesIn b) ≡ None
+  pub mate : wrong_mate (parse b).faces (mates_in b) ≡ None
   pub solid : solid_cause (parse b) ≡ None
-  pub measure : wrongVolume b (parse b) ≡ None
-  pub stations : first_of (station_count (parse b)) (checkStation b (parse b)) ≡ None
+  pub measure : wrong_volume b (parse b) ≡ None
+  pub stations : first_of (station_count (parse b)) (check_station b (parse b)) ≡ None
 
-pub passed : (b : List ℕ) → checkerCause b ≡ None → Passed b
-unfolding checkerCause
+pub passed : (b : List ℕ) → checker_cause b ≡ None → Passed b
+unfolding checker_cause
 passed b ok =
-    let a = both (wrongLength b) _ ok in
+    let a = both (wrong_length b) _ ok in
     let c = both (malformed (parse b)) _ a.1 in
     let d = both (too_many (parse b)) _ c.1 in
     let e = both (out_of_limits (parse b)) _ d.1 in
     let f = both (no_such_vertex (parse b)) _ e.1 in
     let g = both (wrong_order (parse b).faces (order_in b)) _ f.1 in
-    let h = both (wrong_mate (parse b).faces (matesIn b)) _ g.1 in
+    let h = both (wrong_mate (parse b).faces (mates_in b)) _ g.1 in
     let i = both (solid_cause (parse b)) _ h.1 in
-    let j = both (wrongVolume b (parse b)) _ i.1 in
+    let j = both (wrong_volume b (parse b)) _ i.1 in
     record { length_fits = a.0; is_well_formed = c.0; few = d.0; is_in_limits = e.0; corners = f.0; order = g.0; mate = h.0; solid = i.0; measure = j.0; stations = j.1 }
 
-pub passes_all : (b : List ℕ) → Passed b → checkerCause b ≡ None
-unfolding checkerCause
+pub passes_all : (b : List ℕ) → Passed b → checker_cause b ≡ None
+unfolding checker_cause
 passes_all b p = rw (p.length_fits, p.is_well_formed, p.few, p.is_in_limits, p.corners, p.order, p.mate, p.solid, p.measure) p.stations
 
 module _ (b : List ℕ) (B : IsBytes b) (p : Passed b) where
   abbrev s : SheetInput
   s = parse b
 
-  frame : (80 ≤ length b) × ((pointerIn b ≡ pointerFor b) × (length b ≡ pointerFor b + 80))
+  frame : (80 ≤ length b) × ((pointer_in b ≡ pointer_for b) × (length b ≡ pointer_for b + 80))
   frame = none-length b p.length_fits
 
-  pub trailer-place : trailer b ≡ pointerFor b
+  pub trailer-place : trailer b ≡ pointer_for b
   trailer-place = omega (arith, frame.1.1)
 
   limits : AllInLimits s.vertices × (VectorInLimits s.magnetisation × (VectorInLimits s.ambient × AllInLimits s.stations))
-  limits = none-limits-all s p.is_in_limits
+  limits = none_limits_all s p.is_in_limits
 
   -- ---- part by part
 
-  vertices-part : bits s.vertices ≡ unpack 8 (3 * verticesIn b) b 0
+  vertices-part : bits s.vertices ≡ unpack 8 (3 * vertices_in b) b 0
   unfolding parse
-  vertices-part = limited_bits b (3 * verticesIn b) 0 B limits.0
+  vertices-part = limited_bits b (3 * vertices_in b) 0 B limits.0
 
-  faces-part : s.faces ≡ unpack 4 (3 * facesIn b) b (24 * verticesIn b)
+  faces-part : s.faces ≡ unpack 4 (3 * faces_in b) b (24 * vertices_in b)
   unfolding parse
   faces-part = refl
 
-  stations-part : bits s.stations ≡ unpack 8 (3 * stationsIn b) b (stationsStart b)
+  stations-part : bits s.stations ≡ unpack 8 (3 * stations_in b) b (stations_start b)
   unfolding parse
-  stations-part = limited_bits b (3 * stationsIn b) (stationsStart b) B limits.1.1.1
+  stations-part = limited_bits b (3 * stations_in b) (stations_start b) B limits.1.1.1
 
   magnetisation-part : bits (vector_numbers s.magnetisation) ≡ unpack 8 3 b (trailer b + 16)
   unfolding parse
@@ -148,56 +148,56 @@ module _ (b : List ℕ) (B : IsBytes b) (p : Passed b) where
   within = (is_body s.vertices s.faces (length s.faces) counts (none-vertex-all s p.corners)).faces
 
   order-part : order_in b ≡ order_list s.faces
-  order-part = is-order s.faces (order_in b) (order-in-length b) p.order within
+  order-part = is-order s.faces (order_in b) (order_in-length b) p.order within
 
-  mates-part : matesIn b ≡ mates s.faces
-  mates-part = is-mates s.faces (order_in b) (order-in-length b) p.order within (matesIn b) (mates-in-length b) p.mate
+  mates-part : mates_in b ≡ mates s.faces
+  mates-part = is-mates s.faces (order_in b) (order_in-length b) p.order within (mates_in b) (mates_in-length b) p.mate
 
   pub closed : Closed s.faces
-  closed = is-closed s.faces (order_in b) (order-in-length b) p.order within (matesIn b) (mates-in-length b) p.mate
+  closed = is-closed s.faces (order_in b) (order_in-length b) p.order within (mates_in b) (mates_in-length b) p.mate
 
   -- ---- rows
 
-  station : (i : ℕ) → i < stationsIn b → (stationCause s i ≡ None) × (wrongRow b s i ≡ None)
-  unfolding checkStation
-  station i l = both (stationCause s i) (wrongRow b s i) (each (station_count s) (checkStation b s) p.stations i (rw stations-read l))
+  station : (i : ℕ) → i < stations_in b → (station_cause s i ≡ None) × (wrong_row b s i ≡ None)
+  unfolding check_station
+  station i l = both (station_cause s i) (wrong_row b s i) (each (station_count s) (check_station b s) p.stations i (rw stations_read l))
 
-  stands : (i : ℕ) → i < stationsIn b → unpack 8 (row_width (kindIn b)) b (rowStart b i) ≡ bits (numbers_of s (row_at s i))
-  unfolding wrongRow parse
+  stands : (i : ℕ) → i < stations_in b → unpack 8 (row_width (kind_in b)) b (row_start b i) ≡ bits (numbers_of s (row_at s i))
+  unfolding wrong_row parse
   stands i l = same_list _ _ (holds _ (WrongRow i) (station i l).1)
 
-  rows-part : unpack 8 (row_width (kindIn b) * stationsIn b) b (rowsStart b) ≡ bits (rows s (station_count s))
-  rows-part = rows_join s (row_width (kindIn b)) b (rowsStart b) (stationsIn b) stands ∙ ap (λ (n : ℕ). bits (rows s n)) (sym (stations-read b))
+  rows-part : unpack 8 (row_width (kind_in b) * stations_in b) b (rows_start b) ≡ bits (rows s (station_count s))
+  rows-part = rows_join s (row_width (kind_in b)) b (rows_start b) (stations_in b) stands ∙ ap (λ (n : ℕ). bits (rows s n)) (sym (stations_read b))
 
   -- what stands there is the row's bits
-  pub stored : (i : ℕ) → i < stationsIn b → RowStored b i
+  pub stored : (i : ℕ) → i < stations_in b → RowStored b i
   stored i l =
       let f = none-station s i (station i l).0 in
-      let e : unpack 8 (row_width (kindIn b)) b (rowStart b i) ≡ bits (row_numbers (kindIn b) f.row) = stands i l ∙ row-bits f.row f.given in
-      let w : rowLength b ≡ row_width (kindIn b) * 8 = omega arith in
+      let e : unpack 8 (row_width (kind_in b)) b (row_start b i) ≡ bits (row_numbers (kind_in b) f.row) = stands i l ∙ row-bits f.row f.given in
+      let w : row_length b ≡ row_width (kind_in b) * 8 = omega arith in
       record {
         row = f.row;
         given = f.given;
-        stored = ap (λ (n : ℕ). take n (drop (rowStart b i) b)) w ∙ sym (pack-unpack 8 (row_width (kindIn b)) b (rowStart b i) B (omega (arith, frame.1.1, row_within (kindIn b) i (stationsIn b) l))) ∙ ap (pack 8) e;
+        stored = ap (λ (n : ℕ). take n (drop (row_start b i) b)) w ∙ sym (pack-unpack 8 (row_width (kind_in b)) b (row_start b i) B (omega (arith, frame.1.1, row_within (kind_in b) i (stations_in b) l))) ∙ ap (pack 8) e;
       }
     where
-      row-bits : (r : Row) → row_at s i ≡ value r → bits (numbers_of s (row_at s i)) ≡ bits (row_numbers (kindIn b) r)
-      row-bits r q = rw q (ap (λ (k : ℕ). bits (row_numbers k r)) (kind-read b))
+      row-bits : (r : Row) → row_at s i ≡ value r → bits (numbers_of s (row_at s i)) ≡ bits (row_numbers (kind_in b) r)
+      row-bits r q = rw q (ap (λ (k : ℕ). bits (row_numbers k r)) (kind_read b))
 
   -- ---- the whole
 
-  head-part : s.kind ∷ vertex_count s ∷ face_count s ∷ station_count s ∷ [] ≡ unpack 4 4 b (trailer b)
+  head_part : s.kind ∷ vertex_count s ∷ face_count s ∷ station_count s ∷ [] ≡ unpack 4 4 b (trailer b)
   unfolding unpack
-  head-part =
+  head_part =
       let e : trailer b + 8 ≡ trailer b + 4 + 4 = omega arith in
       let f : trailer b + 12 ≡ trailer b + 4 + 4 + 4 = omega arith in
-      rw (kind-read b, vertices-read b, faces-read b, stations-read b, e, f)
+      rw (kind_read b, vertices_read b, faces_read b, stations_read b, e, f)
 
-  pub measured : volumeIn b ≡ to_bits binary64 (volume s)
-  unfolding wrongVolume
+  pub measured : volume_in b ≡ to_bits binary64 (volume s)
+  unfolding wrong_volume
   measured =
       let x = to_bits binary64 (volume s) in
-      eqb-true (volumeIn b) x (holds (eqb (volumeIn b) x) WrongVolume p.measure)
+      eqb-true (volume_in b) x (holds (eqb (volume_in b) x) WrongVolume p.measure)
 
   volume-part : bits (volume s ∷ []) ≡ unpack 8 1 b (trailer b + 64)
   unfolding unpack
@@ -211,25 +211,25 @@ module _ (b : List ℕ) (B : IsBytes b) (p : Passed b) where
   put k u v = rw (u, v)
 
   -- the trailer's parts, by the pointer
-  in-trailer : (k n j : ℕ) → unpack k n b (trailer b + j) ≡ unpack k n b (pointerFor b + j)
-  in-trailer k n j = ap (λ (i : ℕ). unpack k n b (i + j)) trailer-place
+  in_trailer : (k n j : ℕ) → unpack k n b (trailer b + j) ≡ unpack k n b (pointer_for b + j)
+  in_trailer k n j = ap (λ (i : ℕ). unpack k n b (i + j)) trailer-place
 
-  parts_are : parts s ≡ placed (kindIn b) (verticesIn b) (facesIn b) (stationsIn b) b
+  parts_are : parts s ≡ placed (kind_in b) (vertices_in b) (faces_in b) (stations_in b) b
   unfolding parts
   parts_are =
       put 8 vertices-part (put 4 faces-part (put 4 (sym order-part) (put 4 (sym mates-part) (put 8 stations-part (put 8 (sym rows-part)
-      (put 4 (head-part ∙ ap (unpack 4 4 b) trailer-place) (put 8 (magnetisation-part ∙ in-trailer 8 3 16) (put 8 (ambient-part ∙ in-trailer 8 3 40)
-      (put 8 (volume-part ∙ in-trailer 8 1 64) (put 8 (pointer-part ∙ in-trailer 8 1 72) refl))))))))))
+      (put 4 (head_part ∙ ap (unpack 4 4 b) trailer-place) (put 8 (magnetisation-part ∙ in_trailer 8 3 16) (put 8 (ambient-part ∙ in_trailer 8 3 40)
+      (put 8 (volume-part ∙ in_trailer 8 1 64) (put 8 (pointer-part ∙ in_trailer 8 1 72) refl))))))))))
 
-  pub whole : b ≡ sheetBytes s
-  unfolding sheetBytes
+  pub whole : b ≡ sheet_bytes s
+  unfolding sheet_bytes
   whole =
-      let k = plan (kindIn b) (verticesIn b) (facesIn b) (stationsIn b) in
-      sym (ap joined (parts_are ∙ sym (plan-split (kindIn b) (verticesIn b) (facesIn b) (stationsIn b) b)) ∙ joined-split k b 0 B (omega (arith, frame.1.1)))
+      let k = plan (kind_in b) (vertices_in b) (faces_in b) (stations_in b) in
+      sym (ap joined (parts_are ∙ sym (plan-split (kind_in b) (vertices_in b) (faces_in b) (stations_in b) b)) ∙ joined-split k b 0 B (omega (arith, frame.1.1)))
 
   -- ---- no cause of the writer's
 
-  mesh-solid : is_mesh s.kind ≡ true → bodyCause s ≡ None
+  mesh-solid : is_mesh s.kind ≡ true → body_cause s ≡ None
   unfolding solid_cause volume
   mesh-solid k =
       let v = s.vertices in
@@ -240,34 +240,34 @@ module _ (b : List ℕ) (B : IsBytes b) (p : Passed b) where
       (record {
         once = q.once;
         back = q.back;
-        normals = λ z. none-degenerate v f e.0;
+        normals = λ z. none_degenerate v f e.0;
         positive = λ z. rw k (none-inverted v f e.1);
         side_x = λ z. absurd (two_kinds s.kind k z);
         side_y = λ z. absurd (two_kinds s.kind k z);
         side_z = λ z. absurd (two_kinds s.kind k z);
       })
 
-  prism-solid : is_prism s.kind ≡ true → bodyCause s ≡ None
-  unfolding solid_cause bodyCause
+  prism-solid : is_prism s.kind ≡ true → body_cause s ≡ None
+  unfolding solid_cause body_cause
   prism-solid k = rw (prism_no_mesh s.kind k) (rw (prism_no_mesh s.kind k) at p.solid)
 
   known : KindKnown s
   known = (none-malformed s p.is_well_formed).1.1.1
 
-  writer-none : writerCause s (length s.faces) (length b) ≡ None
-  unfolding writerCause
-  writer-none =
-      let room : sheetLength s ≤ length b = omega (arith, pointer_read b, frame.1.1) in
+  writer_none : writer_cause s (length s.faces) (length b) ≡ None
+  unfolding writer_cause
+  writer_none =
+      let room : sheet_size s ≤ length b = omega (arith, pointer_read b, frame.1.1) in
       rw (p.is_well_formed, p.few, short_none s (length s.faces) (length b) (le_refl (length s.faces)) room, p.is_in_limits, p.corners, ⊎_elim mesh-solid (λ k. prism-solid k.0) known)
-      (from_each (station_count s) (stationCause s) (λ i l. (station i (omega (arith, stations-read b))).0))
+      (from_each (station_count s) (station_cause s) (λ i l. (station i (omega (arith, stations_read b))).0))
 
   pub sound : NoCause s (length s.faces) (length b)
-  sound = no_cause s (length s.faces) (length b) writer-none
+  sound = no_cause s (length s.faces) (length b) writer_none
 
   -- ---- the surface
 
-  pub normals : (j : ℕ) → j < facesIn b → is_zero (normal s.vertices s.faces j) ≡ false
-  normals j l = ⊎_elim (λ k. sound.normals k j (omega (arith, faces-read b))) (λ k. absurd (omega (arith, faces-read b, k.1.1))) known
+  pub normals : (j : ℕ) → j < faces_in b → is_zero (normal s.vertices s.faces j) ≡ false
+  normals j l = ⊎_elim (λ k. sound.normals k j (omega (arith, faces_read b))) (λ k. absurd (omega (arith, faces_read b, k.1.1))) known
 
   prism-above : is_prism s.kind ≡ true → lt 0·0 (volume s) ≡ true
   unfolding volume
@@ -276,5 +276,5 @@ module _ (b : List ℕ) (B : IsBytes b) (p : Passed b) where
   pub positive : lt 0·0 (volume s) ≡ true
   positive = ⊎_elim (λ k. sound.positive k) (λ k. prism-above k.0) known
 
-  pub right : Right b (kindIn b) (stationsIn b)
+  pub right : Right b (kind_in b) (stations_in b)
   right = record { kind = refl; stations = refl; closed = closed; normals = normals; measured = measured; positive = positive; rows = stored; whole = whole; sound = sound }

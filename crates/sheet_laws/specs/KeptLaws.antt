@@ -31,7 +31,7 @@ use Rattle.mesh_orders.specs.OrderLaws as order
 use Rattle.mesh_orders.specs.Mates.{mates}
 use Rattle.mesh.specs.Surface as surface
 use Rattle.mesh.specs.Accepted.{Counted, Closed}
-use Rattle.mesh.specs.CauseLaws.{is_body, degenerate-none, inverted-none}
+use Rattle.mesh.specs.CauseLaws.{is_body, degenerate_none, inverted-none}
 use Rattle.mesh_laws.specs.ClosedLaws.{pairs_closed}
 use Rattle.prism.specs.Prism.{sides_within_limits, side_within_limits, prism_volume}
 use Rattle.anomaly.specs.Body.{body_of}
@@ -48,12 +48,12 @@ use Rattle.sheet_rows.specs.Row as row
 use Rattle.sheet_rows.specs.declared.Row.{Row}
 use Rattle.sheet_laws.specs.FieldFits.{FieldFits, field_at_fits}
 use Rattle.sheet.specs.Input.{SheetInput, vertex_count, face_count, station_count, station_at, row_at}
-use Rattle.sheet.specs.Bytes.{trailer_length, pointer, pointer_of, volume, sheetLength, numbers_of, rows, parts, sheetBytes}
-use Rattle.sheet.specs.Writer.{malformed, too_many, too_short, out_of_limits, no_such_vertex, tooThin, stationCause, writerCause}
-use Rattle.sheet.specs.Checker.{trailer, kindIn, verticesIn, facesIn, stationsIn, volumeIn, pointerIn, pointerFor, facesStart, orderStart, matesStart, stationsStart, rowsStart, rowStart, vectorIn, parse, order_in, matesIn, same_numbers, wrong_order, wrong_mate, solid_cause, wrongVolume, wrongRow, checkStation, checkerCause}
+use Rattle.sheet.specs.Bytes.{trailer_length, pointer, pointer_of, volume, sheet_size, numbers_of, rows, parts, sheet_bytes}
+use Rattle.sheet.specs.Writer.{malformed, too_many, too_short, out_of_limits, no_such_vertex, too_thin, station_cause, writer_cause}
+use Rattle.sheet.specs.Checker.{trailer, kind_in, vertices_in, faces_in, stations_in, volume_in, pointer_in, pointer_for, faces_start, order_start, mates_start, stations_start, rows_start, row_start, vector_in, parse, order_in, mates_in, same_numbers, wrong_order, wrong_mate, solid_cause, wrong_volume, wrong_row, check_station, checker_cause}
 use Rattle.sheet.specs.Promises.{NoCause, Typed, VectorFits, Kept}
 use Rattle.sheet_laws.specs.WriterLaws.{station-none, cause-none}
-use Rattle.sheet_laws.specs.OrderAndMates.{order-passes, mates-pass, mates-below, mates-length}
+use Rattle.sheet_laws.specs.OrderAndMates.{order_passes, mates_pass, mates-below, mates-length}
 use Rattle.sheet_laws.specs.Reading.{same_input, plan, placed, plan-split, plan-size, length_none, list_same, RowsHave, rows-length, rows_apart}
 use Rattle.sheet_laws.specs.AcceptedLaws.{passes_all}
 
@@ -112,7 +112,7 @@ part (suc n) ((k, xs) ∷ ps) = part n ps
 
 module _ (s : SheetInput) (ty : Typed s) (w o : ℕ) (h : NoCause s w o) where
   abbrev b : List ℕ
-  b = sheetBytes s
+  b = sheet_bytes s
 
   -- ---- the rows
 
@@ -157,12 +157,12 @@ module _ (s : SheetInput) (ty : Typed s) (w o : ℕ) (h : NoCause s w o) where
   uses-lt : (l : List ℕ) → Below l (length s.faces) → (i : ℕ) → get_or l i 0 < 256 ^ 4
   uses-lt l q = below_all l (256 ^ 4) (omega arith) (λ i k. omega (arith, q i k, faces.few))
 
-  head-lt : (i : ℕ) → get_or (s.kind ∷ vertex_count s ∷ face_count s ∷ station_count s ∷ []) i 0 < 256 ^ 4
-  head-lt zero = ty.kind
-  head-lt (suc zero) = omega (arith, h.vertices)
-  head-lt (suc (suc zero)) = omega (arith, h.faces)
-  head-lt (suc (suc (suc zero))) = omega (arith, h.stations)
-  head-lt (suc (suc (suc (suc i)))) = omega arith
+  head_lt : (i : ℕ) → get_or (s.kind ∷ vertex_count s ∷ face_count s ∷ station_count s ∷ []) i 0 < 256 ^ 4
+  head_lt zero = ty.kind
+  head_lt (suc zero) = omega (arith, h.vertices)
+  head_lt (suc (suc zero)) = omega (arith, h.faces)
+  head_lt (suc (suc (suc zero))) = omega (arith, h.stations)
+  head_lt (suc (suc (suc (suc i)))) = omega arith
 
   one-lt : (x : ℕ) → x < 256 ^ 8 → (i : ℕ) → get_or (x ∷ []) i 0 < 256 ^ 8
   one-lt x l zero = l
@@ -187,7 +187,7 @@ module _ (s : SheetInput) (ty : Typed s) (w o : ℕ) (h : NoCause s w o) where
             (
               bits-lt (rows s (station_count s)) (rows_fit (station_count s) (omega arith)),
               (
-                head-lt,
+                head_lt,
                 (
                   bits-lt (vector_numbers s.magnetisation) (vector-doubles s.magnetisation ty.magnetisation),
                   (
@@ -206,41 +206,41 @@ module _ (s : SheetInput) (ty : Typed s) (w o : ℕ) (h : NoCause s w o) where
   -- ---- the bytes, taken apart, are the parts
 
   parts_are : placed s.kind (vertex_count s) (face_count s) (station_count s) b ≡ parts s
-  unfolding sheetBytes
+  unfolding sheet_bytes
   parts_are =
       sym (plan-split s.kind (vertex_count s) (face_count s) (station_count s) b)
       ∙ ap (λ (rs : List Run). split rs (joined (parts s)) 0) (sym layout_is) ∙ split-joined (parts s) each_fits
 
-  pub sheet_length : length b ≡ sheetLength s
-  unfolding sheetBytes
+  pub sheet_length : length b ≡ sheet_size s
+  unfolding sheet_bytes
   sheet_length = joined_length (parts s) ∙ ap size layout_is ∙ plan-size s.kind (vertex_count s) (face_count s) (station_count s) []
 
-  pub sheet-bytes : IsBytes b
-  unfolding sheetBytes
-  sheet-bytes = joined_are (parts s)
+  pub sheet_bytes_lem : IsBytes b
+  unfolding sheet_bytes
+  sheet_bytes_lem = joined_are (parts s)
 
   pub trailer-is : trailer b ≡ pointer s
   trailer-is = omega (arith, sheet_length)
 
   -- ---- what stands in the trailer
 
-  head-is : unpack 4 4 b (pointer s) ≡ s.kind ∷ vertex_count s ∷ face_count s ∷ station_count s ∷ []
+  head_is : unpack 4 4 b (pointer s) ≡ s.kind ∷ vertex_count s ∷ face_count s ∷ station_count s ∷ []
   unfolding parts
-  head-is = ap (part 6) parts_are
+  head_is = ap (part 6) parts_are
 
   at_head : (j : ℕ) → j < 4 → number 4 b (pointer s + j * 4) ≡ get_or (s.kind ∷ vertex_count s ∷ face_count s ∷ station_count s ∷ []) j 0
-  at_head j l = sym (unpack-at 4 4 b (pointer s) j l) ∙ ap (λ (ns : List ℕ). get_or ns j 0) head-is
+  at_head j l = sym (unpack-at 4 4 b (pointer s) j l) ∙ ap (λ (ns : List ℕ). get_or ns j 0) head_is
 
-  pub kind-is : kindIn b ≡ s.kind
+  pub kind-is : kind_in b ≡ s.kind
   kind-is = let e : trailer b ≡ pointer s + 0 * 4 = omega (arith, trailer-is) in ap (number 4 b) e ∙ at_head 0 (omega arith)
 
-  pub vertices-is : verticesIn b ≡ vertex_count s
+  pub vertices-is : vertices_in b ≡ vertex_count s
   vertices-is = let e : trailer b + 4 ≡ pointer s + 1 * 4 = omega (arith, trailer-is) in ap (number 4 b) e ∙ at_head 1 (omega arith)
 
-  pub faces-is : facesIn b ≡ face_count s
+  pub faces-is : faces_in b ≡ face_count s
   faces-is = let e : trailer b + 8 ≡ pointer s + 2 * 4 = omega (arith, trailer-is) in ap (number 4 b) e ∙ at_head 2 (omega arith)
 
-  pub stations-is : stationsIn b ≡ station_count s
+  pub stations-is : stations_in b ≡ station_count s
   stations-is = let e : trailer b + 12 ≡ pointer s + 3 * 4 = omega (arith, trailer-is) in ap (number 4 b) e ∙ at_head 3 (omega arith)
 
   -- ---- the parts, where the checker reads them
@@ -248,39 +248,39 @@ module _ (s : SheetInput) (ty : Typed s) (w o : ℕ) (h : NoCause s w o) where
   at : (k n : ℕ) {x : List ℕ} {i : ℕ} (j : ℕ) → i ≡ j → unpack k n b j ≡ x → unpack k n b i ≡ x
   at k n j e q = ap (unpack k n b) e ∙ q
 
-  vertices-part : unpack 8 (3 * verticesIn b) b 0 ≡ bits s.vertices
+  vertices-part : unpack 8 (3 * vertices_in b) b 0 ≡ bits s.vertices
   unfolding parts
   vertices-part = ap (λ (n : ℕ). unpack 8 (3 * n) b 0) vertices-is ∙ ap (part 0) parts_are
 
-  faces-part : unpack 4 (3 * facesIn b) b (facesStart b) ≡ s.faces
+  faces-part : unpack 4 (3 * faces_in b) b (faces_start b) ≡ s.faces
   unfolding parts
   faces-part =
-      ap (λ (n : ℕ). unpack 4 (3 * n) b (facesStart b)) faces-is
+      ap (λ (n : ℕ). unpack 4 (3 * n) b (faces_start b)) faces-is
       ∙ at 4 (3 * face_count s) (24 * vertex_count s) (omega (arith, vertices-is)) (ap (part 1) parts_are)
 
   order-part : order_in b ≡ order_list s.faces
   unfolding parts
   order-part =
-      ap (λ (n : ℕ). unpack 4 (3 * n) b (orderStart b)) faces-is
+      ap (λ (n : ℕ). unpack 4 (3 * n) b (order_start b)) faces-is
       ∙ at 4 (3 * face_count s) (24 * vertex_count s + 12 * face_count s) (omega (arith, vertices-is, faces-is)) (ap (part 2) parts_are)
 
-  mates-part : matesIn b ≡ mates s.faces
+  mates-part : mates_in b ≡ mates s.faces
   unfolding parts
   mates-part =
-      ap (λ (n : ℕ). unpack 4 (3 * n) b (matesStart b)) faces-is
+      ap (λ (n : ℕ). unpack 4 (3 * n) b (mates_start b)) faces-is
       ∙ at 4 (3 * face_count s) (24 * vertex_count s + 24 * face_count s) (omega (arith, vertices-is, faces-is)) (ap (part 3) parts_are)
 
-  stations-part : unpack 8 (3 * station_count s) b (stationsStart b) ≡ bits s.stations
+  stations-part : unpack 8 (3 * station_count s) b (stations_start b) ≡ bits s.stations
   unfolding parts
   stations-part = at 8 (3 * station_count s) (24 * vertex_count s + 36 * face_count s) (omega (arith, vertices-is, faces-is)) (ap (part 4) parts_are)
 
-  rows-part : unpack 8 (row_width s.kind * station_count s) b (rowsStart b) ≡ bits (rows s (station_count s))
+  rows-part : unpack 8 (row_width s.kind * station_count s) b (rows_start b) ≡ bits (rows s (station_count s))
   unfolding parts
   rows-part =
       at 8 (row_width s.kind * station_count s) (24 * vertex_count s + 36 * face_count s + 24 * station_count s) (omega (arith, vertices-is, faces-is, stations-is)) (ap (part 5) parts_are)
 
-  head-part : unpack 4 4 b (trailer b) ≡ s.kind ∷ vertex_count s ∷ face_count s ∷ station_count s ∷ []
-  head-part = at 4 4 (pointer s) trailer-is head-is
+  head_part : unpack 4 4 b (trailer b) ≡ s.kind ∷ vertex_count s ∷ face_count s ∷ station_count s ∷ []
+  head_part = at 4 4 (pointer s) trailer-is head_is
 
   magnetisation-part : unpack 8 3 b (trailer b + 16) ≡ bits (vector_numbers s.magnetisation)
   unfolding parts
@@ -290,13 +290,13 @@ module _ (s : SheetInput) (ty : Typed s) (w o : ℕ) (h : NoCause s w o) where
   unfolding parts
   ambient-part = at 8 3 (pointer s + 40) (omega (arith, trailer-is)) (ap (part 8) parts_are)
 
-  volume-is : volumeIn b ≡ to_bits binary64 (volume s)
+  volume-is : volume_in b ≡ to_bits binary64 (volume s)
   unfolding parts unpack
   volume-is =
       let e : trailer b + 64 ≡ pointer s + 64 = omega (arith, trailer-is) in
       ap (number 8 b) e ∙ ap (λ (ns : List ℕ). get_or ns 0 0) (ap (part 9) parts_are)
 
-  pointer_is : pointerIn b ≡ pointer s
+  pointer_is : pointer_in b ≡ pointer s
   unfolding parts unpack
   pointer_is =
       let e : trailer b + 72 ≡ pointer s + 72 = omega (arith, trailer-is) in
@@ -304,7 +304,7 @@ module _ (s : SheetInput) (ty : Typed s) (w o : ℕ) (h : NoCause s w o) where
 
   -- ---- the input is read back
 
-  vector-back : (i : ℕ) (v : Vector) → VectorFits v → unpack 8 3 b i ≡ bits (vector_numbers v) → vectorIn b i ≡ v
+  vector-back : (i : ℕ) (v : Vector) → VectorFits v → unpack 8 3 b i ≡ bits (vector_numbers v) → vector_in b i ≡ v
   vector-back i v f e = ap (λ (ns : List ℕ). surface.vertex (doubles ns) 0) e ∙ ap (λ (xs : List Float). surface.vertex xs 0) (doubles-bits (vector_numbers v) (vector-doubles v f))
 
   pub read_back : parse b ≡ s
@@ -312,36 +312,36 @@ module _ (s : SheetInput) (ty : Typed s) (w o : ℕ) (h : NoCause s w o) where
   read_back =
       same_input kind-is (ap doubles vertices-part ∙ doubles-bits s.vertices ty.vertices) faces-part
       (vector-back (trailer b + 16) s.magnetisation ty.magnetisation magnetisation-part) (vector-back (trailer b + 40) s.ambient ty.ambient ambient-part)
-      (ap (λ (n : ℕ). doubles (unpack 8 (3 * n) b (stationsStart b))) stations-is ∙ ap doubles stations-part ∙ doubles-bits s.stations ty.stations)
+      (ap (λ (n : ℕ). doubles (unpack 8 (3 * n) b (stations_start b))) stations-is ∙ ap doubles stations-part ∙ doubles-bits s.stations ty.stations)
 
   -- ---- and the sheet passes
 
   mesh-solid : is_mesh s.kind ≡ true → solid_cause s ≡ None
   unfolding solid_cause volume
   mesh-solid k =
-      rw (k, degenerate-none s.vertices s.faces (h.normals k), inverted-none s.vertices s.faces (rw k at (h.positive k)))
+      rw (k, degenerate_none s.vertices s.faces (h.normals k), inverted-none s.vertices s.faces (rw k at (h.positive k)))
 
   prism-solid : is_prism s.kind ≡ true → solid_cause s ≡ None
-  unfolding solid_cause tooThin sides_within_limits side_within_limits
+  unfolding solid_cause too_thin sides_within_limits side_within_limits
   prism-solid k = rw (prism_no_mesh s.kind k, h.side_x k, h.side_y k, h.side_z k)
 
-  pointer_read : pointerFor b ≡ pointer s
-  pointer_read = ap (λ (k : ℕ). pointer_of k (verticesIn b) (facesIn b) (stationsIn b)) kind-is ∙ rw (vertices-is, faces-is, stations-is)
+  pointer_read : pointer_for b ≡ pointer s
+  pointer_read = ap (λ (k : ℕ). pointer_of k (vertices_in b) (faces_in b) (stations_in b)) kind-is ∙ rw (vertices-is, faces-is, stations-is)
 
-  row-passes : (i : ℕ) → i < station_count s → wrongRow b s i ≡ None
-  unfolding wrongRow
-  row-passes i l =
+  row_passes : (i : ℕ) → i < station_count s → wrong_row b s i ≡ None
+  unfolding wrong_row
+  row_passes i l =
       let n = row_width s.kind in
-      let e : rowStart b i ≡ rowsStart b + 8 * n * i = ap (λ (k : ℕ). rowsStart b + 8 * row_width k * i) kind-is in
-      let q : unpack 8 n b (rowStart b i) ≡ bits (numbers_of s (row_at s i)) = at 8 n (rowsStart b + 8 * n * i) e (rows_apart s n b (rowsStart b) (station_count s) have rows-part i l) in
+      let e : row_start b i ≡ rows_start b + 8 * n * i = ap (λ (k : ℕ). rows_start b + 8 * row_width k * i) kind-is in
+      let q : unpack 8 n b (row_start b i) ≡ bits (numbers_of s (row_at s i)) = at 8 n (rows_start b + 8 * n * i) e (rows_apart s n b (rows_start b) (station_count s) have rows-part i l) in
       rw q (passes (same_numbers (bits (numbers_of s (row_at s i))) (bits (numbers_of s (row_at s i)))) (WrongRow i) (list_same (bits (numbers_of s (row_at s i)))))
 
-  volume-passes : wrongVolume b s ≡ None
-  unfolding wrongVolume
-  volume-passes = passes _ WrongVolume (eq-eqb (volumeIn b) (to_bits binary64 (volume s)) volume-is)
+  volume_passes : wrong_volume b s ≡ None
+  unfolding wrong_volume
+  volume_passes = passes _ WrongVolume (eq-eqb (volume_in b) (to_bits binary64 (volume s)) volume-is)
 
-  pub accepted : checkerCause b ≡ None
-  unfolding writerCause checkStation
+  pub accepted : checker_cause b ≡ None
+  unfolding writer_cause check_station
   accepted =
       let c₁ = both (malformed s) _ (cause-none s w o h) in
       let c₂ = both (too_many s) _ c₁.1 in
@@ -355,19 +355,19 @@ module _ (s : SheetInput) (ty : Typed s) (w o : ℕ) (h : NoCause s w o) where
         few = ap too_many read_back ∙ c₂.0;
         is_in_limits = ap out_of_limits read_back ∙ c₃.0;
         corners = ap no_such_vertex read_back ∙ c₄.0;
-        order = ap (λ (t : SheetInput). wrong_order t.faces (order_in b)) read_back ∙ ap (wrong_order s.faces) order-part ∙ order-passes s.faces faces closed;
-        mate = ap (λ (t : SheetInput). wrong_mate t.faces (matesIn b)) read_back ∙ ap (wrong_mate s.faces) mates-part ∙ mates-pass s.faces faces closed;
+        order = ap (λ (t : SheetInput). wrong_order t.faces (order_in b)) read_back ∙ ap (wrong_order s.faces) order-part ∙ order_passes s.faces faces closed;
+        mate = ap (λ (t : SheetInput). wrong_mate t.faces (mates_in b)) read_back ∙ ap (wrong_mate s.faces) mates-part ∙ mates_pass s.faces faces closed;
         solid = ap solid_cause read_back ∙ ⊎_elim mesh-solid (λ k. prism-solid k.0) h.known;
-        measure = ap (wrongVolume b) read_back ∙ volume-passes;
+        measure = ap (wrong_volume b) read_back ∙ volume_passes;
         stations =
-            ap (λ (t : SheetInput). first_of (station_count t) (checkStation b t)) read_back
-            ∙ from_each (station_count s) (checkStation b s) (λ i l. from_both (stationCause s i) (wrongRow b s i) (station-none s i (h.rows i l)) (row-passes i l));
+            ap (λ (t : SheetInput). first_of (station_count t) (check_station b t)) read_back
+            ∙ from_each (station_count s) (check_station b s) (λ i l. from_both (station_cause s i) (wrong_row b s i) (station-none s i (h.rows i l)) (row_passes i l));
       })
 
   -- ---- the bytes themselves
 
   packed : (k n i m : ℕ) (xs : List ℕ) → n * k ≡ m → i + m ≤ length b → unpack k n b i ≡ xs → take m (drop i b) ≡ pack k xs
-  packed k n i m xs e l q = ap (λ (j : ℕ). take j (drop i b)) (sym e) ∙ sym (pack-unpack k n b i sheet-bytes (omega arith)) ∙ ap (pack k) q
+  packed k n i m xs e l q = ap (λ (j : ℕ). take j (drop i b)) (sym e) ∙ sym (pack-unpack k n b i sheet_bytes_lem (omega arith)) ∙ ap (pack k) q
 
   header : take 64 (drop (trailer b) b)
       ≡ pack 4 (s.kind ∷ vertex_count s ∷ face_count s ∷ station_count s ∷ []) ++ pack 8 (bits (vector_numbers s.magnetisation)) ++ pack 8 (bits (vector_numbers s.ambient))
@@ -375,7 +375,7 @@ module _ (s : SheetInput) (ty : Typed s) (w o : ℕ) (h : NoCause s w o) where
       let t = trailer b in
       let room : t + 64 ≤ length b = omega (arith, sheet_length) in
       take-add 40 24 (drop t b) ∙ ap (λ (l : List ℕ). l ++ take 24 (drop 40 (drop t b))) (take-add 16 24 (drop t b))
-      ∙ three (packed 4 4 t 16 _ refl (omega arith) head-part) (ap (take 24) (drop-drop 16 t b) ∙ packed 8 3 (t + 16) 24 _ refl (omega arith) magnetisation-part)
+      ∙ three (packed 4 4 t 16 _ refl (omega arith) head_part) (ap (take 24) (drop-drop 16 t b) ∙ packed 8 3 (t + 16) 24 _ refl (omega arith) magnetisation-part)
       (ap (take 24) (drop-drop 40 t b) ∙ packed 8 3 (t + 40) 24 _ refl (omega arith) ambient-part)
     where
       three : {x x' y y' z z' : List ℕ} → x ≡ x' → y ≡ y' → z ≡ z' → x ++ y ++ z ≡ x' ++ y' ++ z'
@@ -393,8 +393,8 @@ module _ (s : SheetInput) (ty : Typed s) (w o : ℕ) (h : NoCause s w o) where
       two : {x x' y y' : List ℕ} → x ≡ x' → y ≡ y' → x ++ y ≡ x' ++ y'
       two p q = cc
 
-  stations-bytes : take (24 * station_count s) (drop (stationsStart b) b) ≡ pack 8 (bits s.stations)
-  stations-bytes = packed 8 (3 * station_count s) (stationsStart b) (24 * station_count s) _ (omega arith) (omega (arith, sheet_length, vertices-is, faces-is)) stations-part
+  stations-bytes : take (24 * station_count s) (drop (stations_start b) b) ≡ pack 8 (bits s.stations)
+  stations-bytes = packed 8 (3 * station_count s) (stations_start b) (24 * station_count s) _ (omega arith) (omega (arith, sheet_length, vertices-is, faces-is)) stations-part
 
   pub is-kept : Kept s b
   is-kept = record { holds = read_back; header = header; body = body_bytes; stations = stations-bytes; accepted = accepted }

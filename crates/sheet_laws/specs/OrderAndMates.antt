@@ -17,8 +17,8 @@ use Rattle.lists.proofs.Filling.{map_range, filled-all}
 use Rattle.mesh_orders.specs.Edges.{from, to, occurrences, edge, reverse, Faces}
 use Rattle.mesh_orders.specs.Order.{order_list}
 use Rattle.mesh_orders.specs.Mates.{mate, mates}
-use Rattle.mesh_orders.specs.EdgeLaws.{has-own, has-pair, edge-self, occurs-two, some-use, edge-one, number-has, small-to}
-use Rattle.mesh_orders.specs.OrderLaws.{order-length, order_below, place, places-apart, order-edges, ascending-edges}
+use Rattle.mesh_orders.specs.EdgeLaws.{has-own, has_pair, edge_self, occurs-two, some_use, edge-one, number-has, small-to}
+use Rattle.mesh_orders.specs.OrderLaws.{order-length, order_below, place, places_apart, order-edges, ascending-edges}
 use Rattle.mesh_orders.specs.MateLaws.{mate-reverse, reverse-occurs, occurs-mate, mate-only}
 use Rattle.mesh.specs.Accepted.{Closed}
 use Rattle.mesh.specs.CauseLaws.{none_each, each_none}
@@ -48,8 +48,8 @@ module _ (f o : List ℕ) (n : length o ≡ length f) (e : wrong_order f o ≡ N
   order-entries i l =
       ltb-true (get_or o i 0) (length f) (both (ltb (get_or o i 0) (length f)) (eqb i 0 || ltb (edge f (get_or o (i - 1) 0)) (edge f (get_or o i 0))) (each-ascends i (omega arith))).0
 
-  edges-ascend : Ascending (edge f) o
-  edges-ascend =
+  edges_ascend : Ascending (edge f) o
+  edges_ascend =
       steps_ascend (edge f) o (λ i l.
       let t = (both (ltb (get_or o (suc i) 0) (length f)) (eqb (suc i) 0 || ltb (edge f (get_or o (suc i - 1) 0)) (edge f (get_or o (suc i) 0))) (each-ascends (suc i) (omega arith))).1 in
       let z : suc i - 1 ≡ i = omega arith in
@@ -57,7 +57,7 @@ module _ (f o : List ℕ) (n : length o ≡ length f) (e : wrong_order f o ≡ N
 
   module _ (h : Faces f) where
     pub is-order : o ≡ order_list f
-    is-order = ascending-edges f h o n order-entries edges-ascend
+    is-order = ascending-edges f h o n order-entries edges_ascend
 
     -- no two uses have the same edge
     apart : (u w : ℕ) → u < length f → w < length f → edge f w ≡ edge f u → w ≡ u
@@ -66,7 +66,7 @@ module _ (f o : List ℕ) (n : length o ≡ length f) (e : wrong_order f o ≡ N
         let j = place f w wl in
         let a : edge f (get_or (order_list f) i.at 0) ≡ edge f u = ap (edge f) i.is in
         let c : edge f (get_or (order_list f) j.at 0) ≡ edge f w = ap (edge f) j.is in
-        let s : Ascending (edge f) (order_list f) = subst (Ascending (edge f)) is-order edges-ascend in
+        let s : Ascending (edge f) (order_list f) = subst (Ascending (edge f)) is-order edges_ascend in
         ⊎_elim (λ z. sym j.is ∙ ap (λ (x : ℕ). get_or (order_list f) x 0) (sym z) ∙ i.is)
         (λ z. ⊎_elim (λ l. absurd (omega (arith, s i.at j.at l j.within))) (λ l. absurd (omega (arith, s j.at i.at (omega arith) i.within))) (below? i.at j.at))
         (same? i.at j.at)
@@ -76,8 +76,8 @@ module _ (f o : List ℕ) (n : length o ≡ length f) (e : wrong_order f o ≡ N
       where
         one : 1 ≤ occurrences f a b → occurrences f a b ≤ 1
         one l =
-            let u = some-use f a b l in
-            let q = has-pair f u.0 a b u.2 in
+            let u = some_use f a b l in
+            let q = has_pair f u.0 a b u.2 in
             omega (arith, sym (ap₂ (occurrences f) q.0 q.1) ∙ edge-one f h u.0 u.1 (λ w wl. apart u.0 w u.1 wl))
 
     module _ (m : List ℕ) (k : length m ≡ length f) (g : wrong_mate f m ≡ None) where
@@ -96,8 +96,8 @@ module _ (f o : List ℕ) (n : length o ≡ length f) (e : wrong_order f o ≡ N
         where
           back : (a b : ℕ) → 1 ≤ occurrences f a b → 1 ≤ occurrences f b a
           back a b l =
-              let u = some-use f a b l in
-              let q = has-pair f u.0 a b u.2 in
+              let u = some_use f a b l in
+              let q = has_pair f u.0 a b u.2 in
               let r = reverses u.0 u.1 in
               omega (arith, reverse-occurs f u.0 h (get_or m u.0 0) r.0 r.1, ap₂ (occurrences f) q.1 q.0)
 
@@ -111,20 +111,20 @@ module _ (f : List ℕ) (h : Faces f) (c : Closed f) where
       let y = get_or o j 0 in
       let yl = order_below f j (omega (arith, order-length f)) in
       let xl = order_below f i (omega (arith, order-length f)) in
-      ⊎_elim (λ e. absurd (twice x y xl yl (places-apart f i j ij jl) e)) (λ e. omega (arith, order-edges f h i j ij (omega (arith, order-length f)))) (same? (edge f x) (edge f y))
+      ⊎_elim (λ e. absurd (twice x y xl yl (places_apart f i j ij jl) e)) (λ e. omega (arith, order-edges f h i j ij (omega (arith, order-length f)))) (same? (edge f x) (edge f y))
     where
       twice : (x y : ℕ) → x < length f → y < length f → (x ≡ y → ⊥) → edge f x ≡ edge f y → ⊥
       twice x y xl yl ne e =
           let a = from f x in
           let b = to f x in
           let p = has-own f x a b refl refl in
-          let q = number-has f h y a b (omega (arith, small-to f h x)) (sym e ∙ edge-self f x) in
+          let q = number-has f h y a b (omega (arith, small-to f h x)) (sym e ∙ edge_self f x) in
           ⊎_elim (λ l. omega (arith, occurs-two f a b x y l yl p q, c.once x xl))
           (λ l. ⊎_elim (λ z. ne (sym z)) (λ z. omega (arith, occurs-two f a b y x (omega arith) xl q p, c.once x xl)) (same? y x)) (below? x y)
 
-  pub order-passes : wrong_order f (order_list f) ≡ None
+  pub order_passes : wrong_order f (order_list f) ≡ None
   unfolding wrong_order
-  order-passes = each_none (length f) (ascends f (order_list f)) (λ i. WrongOrder) (λ i l. at i l)
+  order_passes = each_none (length f) (ascends f (order_list f)) (λ i. WrongOrder) (λ i l. at i l)
     where
       at : (i : ℕ) → i < length f → ascends f (order_list f) i ≡ true
       at zero l = rw (lt-ltb (get_or (order_list f) 0 0) (length f) (order_below f 0 (omega (arith, order-length f))))
@@ -147,9 +147,9 @@ module _ (f : List ℕ) (h : Faces f) (c : Closed f) where
       let z : 0 + u ≡ u = omega arith in
       rw (map_range (mate f) 0 (length f) u k, z) (mate-within u k)
 
-  pub mates-pass : wrong_mate f (mates f) ≡ None
+  pub mates_pass : wrong_mate f (mates f) ≡ None
   unfolding wrong_mate mates
-  mates-pass =
+  mates_pass =
       each_none (length f) (is_reverse f (map (mate f) (range 0 (length f)))) (λ u. WrongMate) (λ u l.
       let l' = mate-within u l in
       let z : 0 + u ≡ u = omega arith in

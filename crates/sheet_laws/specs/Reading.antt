@@ -24,7 +24,7 @@ use Rattle.sheet_layout.proofs.Lists.{unpack-length, unpack-append}
 use Rattle.sheet_rows.specs.Kinds.{row_width}
 use Rattle.sheet.specs.Input.{SheetInput, vertex_count, face_count, station_count, row_at}
 use Rattle.sheet.specs.Bytes.{trailer_length, pointer_of, pointer, numbers_of, rows}
-use Rattle.sheet.specs.Checker.{kindIn, verticesIn, facesIn, stationsIn, pointerIn, pointerFor, facesStart, orderStart, matesStart, parse, order_in, matesIn, same_numbers, wrongLength}
+use Rattle.sheet.specs.Checker.{kind_in, vertices_in, faces_in, stations_in, pointer_in, pointer_for, faces_start, order_start, mates_start, parse, order_in, mates_in, same_numbers, wrong_length}
 
 -- inputs that agree in each field
 pub same_input : {k k' : ℕ} {v v' t t' : List Float} {f f' : List ℕ} {m m' a a' : Vector} → k ≡ k' → v ≡ v' → f ≡ f' → m ≡ m' → a ≡ a' → t ≡ t'
@@ -62,53 +62,53 @@ module _ (kind v f n : ℕ) (b : List ℕ) where
 -- ---- counts
 
 module _ (b : List ℕ) where
-  pub kind-read : (parse b).kind ≡ kindIn b
+  pub kind_read : (parse b).kind ≡ kind_in b
   unfolding parse
-  kind-read = refl
+  kind_read = refl
 
-  pub vertices-read : vertex_count (parse b) ≡ verticesIn b
+  pub vertices_read : vertex_count (parse b) ≡ vertices_in b
   unfolding parse
-  vertices-read = simp (length-map, unpack-length) (omega arith)
+  vertices_read = simp (length-map, unpack-length) (omega arith)
 
-  pub faces-read : face_count (parse b) ≡ facesIn b
+  pub faces_read : face_count (parse b) ≡ faces_in b
   unfolding parse
-  faces-read = simp unpack-length (omega arith)
+  faces_read = simp unpack-length (omega arith)
 
-  pub stations-read : station_count (parse b) ≡ stationsIn b
+  pub stations_read : station_count (parse b) ≡ stations_in b
   unfolding parse
-  stations-read = simp (length-map, unpack-length) (omega arith)
+  stations_read = simp (length-map, unpack-length) (omega arith)
 
-  pub faces-length : length (parse b).faces ≡ 3 * facesIn b
+  pub faces-length : length (parse b).faces ≡ 3 * faces_in b
   unfolding parse
-  faces-length = unpack-length 4 (3 * facesIn b) b (facesStart b)
+  faces-length = unpack-length 4 (3 * faces_in b) b (faces_start b)
 
-  pub order-in-length : length (order_in b) ≡ length (parse b).faces
-  order-in-length = unpack-length 4 (3 * facesIn b) b (orderStart b) ∙ sym faces-length
+  pub order_in-length : length (order_in b) ≡ length (parse b).faces
+  order_in-length = unpack-length 4 (3 * faces_in b) b (order_start b) ∙ sym faces-length
 
-  pub mates-in-length : length (matesIn b) ≡ length (parse b).faces
-  mates-in-length = unpack-length 4 (3 * facesIn b) b (matesStart b) ∙ sym faces-length
+  pub mates_in-length : length (mates_in b) ≡ length (parse b).faces
+  mates_in-length = unpack-length 4 (3 * faces_in b) b (mates_start b) ∙ sym faces-length
 
-  pub pointer_read : pointer (parse b) ≡ pointerFor b
+  pub pointer_read : pointer (parse b) ≡ pointer_for b
   unfolding parse
-  pointer_read = rw (vertices-read, faces-read, stations-read)
+  pointer_read = rw (vertices_read, faces_read, stations_read)
 
   -- ---- 16
 
-  pub none-length : wrongLength b ≡ None
-      → (80 ≤ length b) × ((pointerIn b ≡ pointerFor b) × (length b ≡ pointerFor b + 80))
-  unfolding wrongLength
+  pub none-length : wrong_length b ≡ None
+      → (80 ≤ length b) × ((pointer_in b ≡ pointer_for b) × (length b ≡ pointer_for b + 80))
+  unfolding wrong_length
   none-length e =
-      let p = pointerFor b in
-      let t = both (leb trailer_length (length b)) (eqb (pointerIn b) p && eqb (length b) (p + trailer_length)) (holds _ WrongLength e) in
-      let u = both (eqb (pointerIn b) p) (eqb (length b) (p + trailer_length)) t.1 in
+      let p = pointer_for b in
+      let t = both (leb trailer_length (length b)) (eqb (pointer_in b) p && eqb (length b) (p + trailer_length)) (holds _ WrongLength e) in
+      let u = both (eqb (pointer_in b) p) (eqb (length b) (p + trailer_length)) t.1 in
       (leb-true _ _ t.0, (eqb-true _ _ u.0, eqb-true _ _ u.1))
 
-  pub length_none : pointerIn b ≡ pointerFor b → length b ≡ pointerFor b + 80
-      → wrongLength b ≡ None
-  unfolding wrongLength
+  pub length_none : pointer_in b ≡ pointer_for b → length b ≡ pointer_for b + 80
+      → wrong_length b ≡ None
+  unfolding wrong_length
   length_none p q =
-      let before = pointerFor b in
-      rw (le-leb trailer_length (length b) (omega (arith, q)), eq-eqb (pointerIn b) before p, eq-eqb (length b) (before + trailer_length) q)
+      let before = pointer_for b in
+      rw (le-leb trailer_length (length b) (omega (arith, q)), eq-eqb (pointer_in b) before p, eq-eqb (length b) (before + trailer_length) q)
 
 -- ---- rows
 

@@ -23,27 +23,27 @@ use Rattle.anomaly.specs.TotalField.{total_field_of, total_field}
 use Rattle.prism_pieces.specs.declared.AxisRule.{AxisRule}
 use Rattle.prism_pieces.specs.declared.AxisRule.TheVariants.{LastOfEquals}
 use Rattle.prism.specs.Prism.{prism_at, numbers_within_limits, side_within_limits, sides_within_limits, cause_of, prism}
-use Rattle.prism.specs.StationNumber.{prismAt-value}
+use Rattle.prism.specs.StationNumber.{prism_at-value}
 use Rattle.mesh.specs.Surface.{vertex}
 use Rattle.mesh.specs.Accepted.{Counted}
-use Rattle.mesh.specs.CauseLaws.{is_body, count_none, limits-none}
+use Rattle.mesh.specs.CauseLaws.{is_body, count_none, limits_none}
 use Rattle.mesh_laws.specs.ClosedLaws.{pairs_closed}
 use Rattle.mesh_laws.specs.Laws.{checks}
 use Rattle.polyhedron.specs.Polyhedron.{polyhedron_at, given_cause, polyhedron_cause, polyhedron}
-use Rattle.polyhedron.specs.StationNumber.{polyhedronAt-value}
+use Rattle.polyhedron.specs.StationNumber.{polyhedron_at-value}
 use Rattle.sheet_layout.specs.LittleEndian.{pack, bits, IsBytes}
 use Rattle.sheet_rows.specs.Kinds.{is_mesh, is_prism, axis_rule, magnetic_constant}
 use Rattle.sheet_rows.proofs.KindLaws.{prism_no_mesh}
 use Rattle.sheet_rows.specs.Row.{field_at, row_from, row_numbers}
 use Rattle.sheet_rows.specs.Row as row
-use Rattle.sheet_rows.specs.StationNumber.{row_field, rowAt-value}
+use Rattle.sheet_rows.specs.StationNumber.{row_field, row_at-value}
 use Rattle.sheet_rows.specs.declared.Row.{Row}
 use Rattle.sheet.specs.Input.{SheetInput, input_of, station_count, station_at, row_at}
 use Rattle.sheet.specs.Bytes.{volume}
-use Rattle.sheet.specs.Checker.{kindIn, rowLength, rowStart, parse}
+use Rattle.sheet.specs.Checker.{kind_in, row_length, row_start, parse}
 use Rattle.sheet.specs.Promises.{AllInLimits, NoCause, Right, Kept}
 use Rattle.sheet_laws.specs.WriterLaws.{limits_in, two_kinds}
-use Rattle.sheet_laws.specs.Reading.{kind-read, stations-read}
+use Rattle.sheet_laws.specs.Reading.{kind_read, stations_read}
 use Rattle.sheet_laws.specs.Demand3.{right}
 
 -- ---- the statements
@@ -63,8 +63,8 @@ pub record FieldFromCalls (s : SheetInput) (i : ℕ) (g : Newtonian) : Type 0 wh
 pub record RowFromCalls (b : List ℕ) (i : ℕ) : Type 0 where
   pub field : Newtonian
   pub answered : FieldFromCalls (parse b) i field
-  pub stored : take (rowLength b) (drop (rowStart b i) b)
-      ≡ pack 8 (bits (row_numbers (kindIn b) (row_from (kindIn b) (parse b).magnetisation (parse b).ambient field)))
+  pub stored : take (row_length b) (drop (row_start b i) b)
+      ≡ pack 8 (bits (row_numbers (kind_in b) (row_from (kind_in b) (parse b).magnetisation (parse b).ambient field)))
 
 -- ---- no cause of the public calls holds of what a sheet was made from
 
@@ -90,7 +90,7 @@ module _ (s : SheetInput) (w o : ℕ) (h : NoCause s w o) (i : ℕ) (l : i < sta
         normals = h.normals k;
         positive = rw k at (h.positive k);
       }) in
-      rw (count_none v f n c, limits-none v f h.vertex-numbers, station-within, surface)
+      rw (count_none v f n c, limits_none v f h.vertex-numbers, station-within, surface)
 
   prism-none : is_prism s.kind ≡ true → cause_of p (vertex s.vertices 0) (vertex s.vertices 1) ≡ None
   unfolding cause_of numbers_within_limits sides_within_limits side_within_limits
@@ -106,15 +106,15 @@ module _ (s : SheetInput) (w o : ℕ) (h : NoCause s w o) (i : ℕ) (l : i < sta
   module _ (g : Newtonian) (e : field_at s.kind i p s.vertices s.faces ≡ value g) where
     mesh-field : is_mesh s.kind ≡ true → polyhedron_at 0 p s.vertices s.faces ≡ value g
     unfolding field_at
-    mesh-field k = polyhedronAt-value i 0 p s.vertices s.faces g (rw k at e)
+    mesh-field k = polyhedron_at-value i 0 p s.vertices s.faces g (rw k at e)
 
     prism-field : is_prism s.kind ≡ true → prism_at (axis_rule s.kind) 0 p (vertex s.vertices 0) (vertex s.vertices 1) ≡ value g
     unfolding field_at
-    prism-field k = prismAt-value (axis_rule s.kind) i 0 p (vertex s.vertices 0) (vertex s.vertices 1) g (rw (prism_no_mesh s.kind k) at e)
+    prism-field k = prism_at-value (axis_rule s.kind) i 0 p (vertex s.vertices 0) (vertex s.vertices 1) g (rw (prism_no_mesh s.kind k) at e)
 
-    field-from-calls : FieldFromCalls s i g
+    field-from_calls : FieldFromCalls s i g
     unfolding polyhedron prism
-    field-from-calls = record {
+    field-from_calls = record {
       of_mesh = λ k n room. rw (mesh-none k n room) (mesh-field k);
       by_rule = λ k. rw (prism-none k) (prism-field k);
       of_prism = λ k r. rw (prism-none k) (rw r at (prism-field k));
@@ -128,18 +128,18 @@ rows_are_calls b k n h i l =
     let s = parse b in
     let st = h.rows i l in
     let q = row_field s.kind s.magnetisation s.ambient i (station_at s i) s.vertices s.faces st.row st.given in
-    let count : i < station_count s = omega (arith, h.stations, stations-read b) in
-    let made = sym q.1 ∙ ap (λ (kind : ℕ). row_from kind s.magnetisation s.ambient st.row.field) (kind-read b) in
+    let count : i < station_count s = omega (arith, h.stations, stations_read b) in
+    let made = sym q.1 ∙ ap (λ (kind : ℕ). row_from kind s.magnetisation s.ambient st.row.field) (kind_read b) in
     record {
       field = st.row.field;
-      answered = field-from-calls s (length s.faces) (length b) h.sound i count st.row.field q.0;
-      stored = st.stored ∙ ap (λ (r : Row). pack 8 (bits (row_numbers (kindIn b) r))) made;
+      answered = field-from_calls s (length s.faces) (length b) h.sound i count st.row.field q.0;
+      stored = st.stored ∙ ap (λ (r : Row). pack 8 (bits (row_numbers (kind_in b) r))) made;
     }
 
 pub written-rows : (s : SheetInput) (b : List ℕ) → IsBytes b → Kept s b → (i : ℕ) → i < station_count s → RowFromCalls b i
 written-rows s b B h i l =
     let e = ap station_count h.holds in
-    rows_are_calls b _ _ (right b B h.accepted) i (omega (arith, e, stations-read b))
+    rows_are_calls b _ _ (right b B h.accepted) i (omega (arith, e, stations_read b))
 
 pub row_elsewhere : (s : SheetInput) (stations : List Float) (i j : ℕ) (r : Row) → station_at s i ≡ vertex stations j → row_at s i ≡ value r
     → row_at (input_of s.kind s.vertices s.faces s.magnetisation s.ambient stations) j ≡ value r
@@ -148,7 +148,7 @@ row_elsewhere s stations i j r q e =
     let m = s.magnetisation in
     let b = s.ambient in
     subst (λ (p : Vector). row.row_at s.kind m b j p s.vertices s.faces ≡ value r) q
-    (rowAt-value s.kind m b i (station_at s i) s.vertices s.faces j r e)
+    (row_at-value s.kind m b i (station_at s i) s.vertices s.faces j r e)
 
 -- ---- the public calls on the field's numbers
 
@@ -157,14 +157,14 @@ not-refused true r x y e = cc
 not-refused false r x y e = absurd (let z : ◌≡◌ {A = ℕ} 0 1 = cc in omega arith)
 
 module _ (kind : ℕ) (m b : Vector) (g : Newtonian) where
-  pub anomaly-from-body : (x : Vector) → magnetic_constant kind ≡ μ₀/4π → body g.hessian m ≡ value x → (row_from kind m b g).anomaly ≡ x
+  pub anomaly_from-body : (x : Vector) → magnetic_constant kind ≡ μ₀/4π → body g.hessian m ≡ value x → (row_from kind m b g).anomaly ≡ x
   unfolding row_from body
-  anomaly-from-body x c e =
+  anomaly_from-body x c e =
       ap (λ (μ : Float). body_of μ g.hessian m) c
       ∙ not-refused (hessian_within_limits g.hessian && vector_within_limits m) OutOfLimits (body_of μ₀/4π g.hessian m) x e
 
-  pub total-from-call : (t : Float) → total_field b (row_from kind m b g).anomaly ≡ value t → (row_from kind m b g).total ≡ t
+  pub total_from_call : (t : Float) → total_field b (row_from kind m b g).anomaly ≡ value t → (row_from kind m b g).total ≡ t
   unfolding row_from total_field
-  total-from-call t e =
+  total_from_call t e =
       let anomaly = body_of (magnetic_constant kind) g.hessian m in
       not-refused (both_within_limits b anomaly) OutOfLimits (total_field_of b anomaly) t e

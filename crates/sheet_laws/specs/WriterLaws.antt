@@ -29,7 +29,7 @@ use Rattle.mesh.specs.Surface.{Body, vertex, normal, is_zero}
 use Rattle.mesh.specs.Check.{surface_cause}
 use Rattle.mesh.specs.Check as mesh
 use Rattle.mesh.specs.Accepted.{Counted}
-use Rattle.mesh.specs.CauseLaws.{is_body, none-limits, limits-none, none-vertex, vertex-none}
+use Rattle.mesh.specs.CauseLaws.{is_body, none_limits, limits_none, none-vertex, vertex-none}
 use Rattle.mesh_laws.specs.ClosedLaws.{closed_pairs, pairs_closed}
 use Rattle.mesh_laws.specs.Laws.{checked, checks}
 use Rattle.prism.specs.Prism.{sides_within_limits, side_within_limits}
@@ -39,8 +39,8 @@ use Rattle.sheet_rows.proofs.KindLaws.{prism_no_mesh}
 use Rattle.sheet_rows.specs.Row.{all_finite, is_finite_row, row_numbers, row_cause}
 use Rattle.sheet_rows.specs.declared.Row.{Row}
 use Rattle.sheet.specs.Input.{SheetInput, vertex_count, face_count, station_count, row_at}
-use Rattle.sheet.specs.Bytes.{sheetLength, volume}
-use Rattle.sheet.specs.Writer.{malformed, too_many, too_short, out_of_limits, no_such_vertex, tooThin, bodyCause, stationCause, writerCause}
+use Rattle.sheet.specs.Bytes.{sheet_size, volume}
+use Rattle.sheet.specs.Writer.{malformed, too_many, too_short, out_of_limits, no_such_vertex, too_thin, body_cause, station_cause, writer_cause}
 use Rattle.sheet.specs.Promises.{VectorInLimits, AllInLimits, SideInLimits, FiniteRow, KindKnown, NoCause}
 
 -- ---- tests
@@ -136,31 +136,31 @@ module _ (s : SheetInput) where
   unfolding too_many within_counts
   many-none p q r = rw (le-leb (vertex_count s) max_vertices p, le-leb (face_count s) max_faces q, le-leb (station_count s) max_stations r)
 
-  pub none-short : (w o : ℕ) → too_short s w o ≡ None → (length s.faces ≤ w) × (sheetLength s ≤ o)
+  pub none_short : (w o : ℕ) → too_short s w o ≡ None → (length s.faces ≤ w) × (sheet_size s ≤ o)
   unfolding too_short
-  none-short w o e =
-      let t = both (leb (length s.faces) w) (leb (sheetLength s) o) (holds _ TooShort e) in
+  none_short w o e =
+      let t = both (leb (length s.faces) w) (leb (sheet_size s) o) (holds _ TooShort e) in
       (leb-true _ _ t.0, leb-true _ _ t.1)
 
-  pub short_none : (w o : ℕ) → length s.faces ≤ w → sheetLength s ≤ o → too_short s w o ≡ None
+  pub short_none : (w o : ℕ) → length s.faces ≤ w → sheet_size s ≤ o → too_short s w o ≡ None
   unfolding too_short
-  short_none w o p q = rw (le-leb (length s.faces) w p, le-leb (sheetLength s) o q)
+  short_none w o p q = rw (le-leb (length s.faces) w p, le-leb (sheet_size s) o q)
 
   -- ---- 3
 
-  pub none-limits-all : out_of_limits s ≡ None → AllInLimits s.vertices × (VectorInLimits s.magnetisation × (VectorInLimits s.ambient × AllInLimits s.stations))
+  pub none_limits_all : out_of_limits s ≡ None → AllInLimits s.vertices × (VectorInLimits s.magnetisation × (VectorInLimits s.ambient × AllInLimits s.stations))
   unfolding out_of_limits
-  none-limits-all e =
+  none_limits_all e =
       let m = vector_within_limits s.magnetisation in
       let a = vector_within_limits s.ambient in
       let t = causes.both (mesh.out_of_limits s.vertices) (or_else (unless (m && a) OutOfLimits) (mesh.out_of_limits s.stations)) e in
       let u = causes.both (unless (m && a) OutOfLimits) (mesh.out_of_limits s.stations) t.1 in
       let v = both m a (holds (m && a) OutOfLimits u.0) in
-      (none-limits s.vertices [] t.0, (is_in_limits s.magnetisation v.0, (is_in_limits s.ambient v.1, none-limits s.stations [] u.1)))
+      (none_limits s.vertices [] t.0, (is_in_limits s.magnetisation v.0, (is_in_limits s.ambient v.1, none_limits s.stations [] u.1)))
 
-  limits-none-all : AllInLimits s.vertices → VectorInLimits s.magnetisation → VectorInLimits s.ambient → AllInLimits s.stations → out_of_limits s ≡ None
+  limits_none-all : AllInLimits s.vertices → VectorInLimits s.magnetisation → VectorInLimits s.ambient → AllInLimits s.stations → out_of_limits s ≡ None
   unfolding out_of_limits
-  limits-none-all p m a q = rw (limits-none s.vertices [] p, limits_in s.magnetisation m, limits_in s.ambient a, limits-none s.stations [] q)
+  limits_none-all p m a q = rw (limits_none s.vertices [] p, limits_in s.magnetisation m, limits_in s.ambient a, limits_none s.stations [] q)
 
   -- ---- 4
 
@@ -174,12 +174,12 @@ module _ (s : SheetInput) where
 
   -- ---- 10, 11 and 13
 
-  pub none-station : (i : ℕ) → stationCause s i ≡ None → FiniteRow s i
-  unfolding stationCause
+  pub none-station : (i : ℕ) → station_cause s i ≡ None → FiniteRow s i
+  unfolding station_cause
   none-station i e = none_row s i (row_at s i) refl e
 
-  pub station-none : (i : ℕ) → FiniteRow s i → stationCause s i ≡ None
-  unfolding stationCause row_cause is_finite_row
+  pub station-none : (i : ℕ) → FiniteRow s i → station_cause s i ≡ None
+  unfolding station_cause row_cause is_finite_row
   station-none i h = rw h.given (passes (all_finite (row_numbers s.kind h.row)) (NotFinite i) (each_finite (row_numbers s.kind h.row) h.numbers))
 
   -- ---- 5 to 8, or 9
@@ -191,8 +191,8 @@ module _ (s : SheetInput) where
       let n = none-many q in
       record { coordinates = m.0; corners = m.1.0; vertices = n.0; faces = n.1.0; room = le_refl (length s.faces) }
 
-  mesh-body : Counted s.vertices s.faces (length s.faces) → no_such_vertex s ≡ None → is_mesh s.kind ≡ true → bodyCause s ≡ None → BodyFacts s
-  unfolding bodyCause no_such_vertex surface_cause volume
+  mesh-body : Counted s.vertices s.faces (length s.faces) → no_such_vertex s ≡ None → is_mesh s.kind ≡ true → body_cause s ≡ None → BodyFacts s
+  unfolding body_cause no_such_vertex surface_cause volume
   mesh-body c v k e =
       let f = s.faces in
       let h = checked s.vertices f (length f) c (from_both (mesh.no_such_vertex (vertex_count s) f) _ v (rw k at e)) in
@@ -207,8 +207,8 @@ module _ (s : SheetInput) where
         side_z = λ z. absurd (two_kinds s.kind k z);
       }
 
-  pub body-mesh : Counted s.vertices s.faces (length s.faces) → Below s.faces (vertex_count s) → is_mesh s.kind ≡ true → BodyFacts s → bodyCause s ≡ None
-  unfolding bodyCause surface_cause volume
+  pub body-mesh : Counted s.vertices s.faces (length s.faces) → Below s.faces (vertex_count s) → is_mesh s.kind ≡ true → BodyFacts s → body_cause s ≡ None
+  unfolding body_cause surface_cause volume
   body-mesh c i k h =
       let v = s.vertices in
       let f = s.faces in
@@ -220,8 +220,8 @@ module _ (s : SheetInput) where
       }) in
       rw k (causes.both (mesh.no_such_vertex (vertex_count s) f) _ e).1
 
-  prism-body : length s.faces % 3 ≡ 0 → is_prism s.kind ≡ true → face_count s ≡ 0 → bodyCause s ≡ None → BodyFacts s
-  unfolding bodyCause tooThin sides_within_limits side_within_limits
+  prism-body : length s.faces % 3 ≡ 0 → is_prism s.kind ≡ true → face_count s ≡ 0 → body_cause s ≡ None → BodyFacts s
+  unfolding body_cause too_thin sides_within_limits side_within_limits
   prism-body c k n e =
       let lo = vertex s.vertices 0 in
       let hi = vertex s.vertices 1 in
@@ -239,8 +239,8 @@ module _ (s : SheetInput) where
         side_z = λ z. u.1;
       }
 
-  pub body-prism : is_prism s.kind ≡ true → BodyFacts s → bodyCause s ≡ None
-  unfolding bodyCause tooThin sides_within_limits side_within_limits
+  pub body-prism : is_prism s.kind ≡ true → BodyFacts s → body_cause s ≡ None
+  unfolding body_cause too_thin sides_within_limits side_within_limits
   body-prism k h = rw (prism_no_mesh s.kind k, h.side_x k, h.side_y k, h.side_z k)
 
   -- ---- for the code: what the causes so far leave of the body, and the body's causes as the code finds them
@@ -249,13 +249,13 @@ module _ (s : SheetInput) where
   body_of p q r = is_body s.vertices s.faces (length s.faces) (counted p q) (none-vertex-all r)
 
   -- 4 to 8 of a mesh are `check_surface`'s
-  pub surface-cause : is_mesh s.kind ≡ true → or_else (no_such_vertex s) (bodyCause s) ≡ surface_cause s.vertices s.faces
-  unfolding bodyCause no_such_vertex surface_cause
-  surface-cause k = rw k
+  pub surface_cause_lem : is_mesh s.kind ≡ true → or_else (no_such_vertex s) (body_cause s) ≡ surface_cause s.vertices s.faces
+  unfolding body_cause no_such_vertex surface_cause
+  surface_cause_lem k = rw k
 
   -- a prism has no faces, and no cause but 9
-  pub prism-cause : is_mesh s.kind ≡ false → length s.faces ≡ 0 → or_else (no_such_vertex s) (bodyCause s) ≡ tooThin s
-  unfolding bodyCause
+  pub prism-cause : is_mesh s.kind ≡ false → length s.faces ≡ 0 → or_else (no_such_vertex s) (body_cause s) ≡ too_thin s
+  unfolding body_cause
   prism-cause k n = rw (vertex-none-all (λ i l. absurd (not-suc-le-zero (subst (λ (m : ℕ). i < m) n l))), k)
 
   -- 1 leaves a mesh, or a prism with two vertices and no faces
@@ -267,19 +267,19 @@ module _ (s : SheetInput) where
   -- ---- all of them
 
   -- none of the writer's causes holds: then each is denied
-  pub no_cause : (w o : ℕ) → writerCause s w o ≡ None → NoCause s w o
-  unfolding writerCause
+  pub no_cause : (w o : ℕ) → writer_cause s w o ≡ None → NoCause s w o
+  unfolding writer_cause
   no_cause w o e =
       let a = causes.both (malformed s) _ e in
       let b = causes.both (too_many s) _ a.1 in
       let c = causes.both (too_short s w o) _ b.1 in
       let d = causes.both (out_of_limits s) _ c.1 in
       let g = causes.both (no_such_vertex s) _ d.1 in
-      let r = causes.both (bodyCause s) _ g.1 in
+      let r = causes.both (body_cause s) _ g.1 in
       let m = none-malformed a.0 in
       let n = none-many b.0 in
-      let room = none-short w o c.0 in
-      let x = none-limits-all d.0 in
+      let room = none_short w o c.0 in
+      let x = none_limits_all d.0 in
       let h = ⊎_elim (λ k. mesh-body (counted a.0 b.0) g.0 k r.0) (λ k. prism-body m.1.0 k.0 k.1.1 r.0) m.1.1.1 in
       record {
         coordinates = m.0;
@@ -303,22 +303,22 @@ module _ (s : SheetInput) where
         side_x = h.side_x;
         side_y = h.side_y;
         side_z = h.side_z;
-        rows = λ i l. none-station i (each (station_count s) (stationCause s) r.1 i l);
+        rows = λ i l. none-station i (each (station_count s) (station_cause s) r.1 i l);
       }
 
   -- each is denied: then none of them holds
-  pub cause-none : (w o : ℕ) → NoCause s w o → writerCause s w o ≡ None
-  unfolding writerCause
+  pub cause-none : (w o : ℕ) → NoCause s w o → writer_cause s w o ≡ None
+  unfolding writer_cause
   cause-none w o h =
       let c : Counted s.vertices s.faces (length s.faces) =
       record { coordinates = h.coordinates; corners = h.corners; vertices = h.vertices; faces = h.faces; room = le_refl (length s.faces) } in
       let facts : BodyFacts s = record { once = h.once; back = h.back; normals = h.normals; positive = h.positive; side_x = h.side_x; side_y = h.side_y; side_z = h.side_z } in
-      let solid : bodyCause s ≡ None = ⊎_elim (λ k. body-mesh c h.inside k facts) (λ k. body-prism k.0 facts) h.known in
+      let solid : body_cause s ≡ None = ⊎_elim (λ k. body-mesh c h.inside k facts) (λ k. body-prism k.0 facts) h.known in
       rw (
         malformed-none h.coordinates h.corners h.triples h.known,
         many-none h.vertices h.faces h.stations,
         short_none w o h.work h.out,
-        limits-none-all h.vertex-numbers h.magnetisation h.ambient h.station-numbers,
+        limits_none-all h.vertex-numbers h.magnetisation h.ambient h.station-numbers,
         vertex-none-all h.inside,
         solid,
-      ) (from_each (station_count s) (stationCause s) (λ i l. station-none i (h.rows i l)))
+      ) (from_each (station_count s) (station_cause s) (λ i l. station-none i (h.rows i l)))

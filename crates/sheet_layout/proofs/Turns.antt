@@ -7,7 +7,7 @@ use native.Mathlib.Numerals.{add-one}
 use lib.ListN.{length, get_or, set, take, replicate, length-map, length-replicate, replicate-append-replicate}
 use lib.Seq.{sets, length-take-le, take-suc, take_all}
 use Rattle.sheet_layout.specs.LittleEndian.{bytes, number, pack, unpack}
-use Rattle.sheet_layout.proofs.Stores.{sets_then, sets-all}
+use Rattle.sheet_layout.proofs.Stores.{sets_then, sets_all}
 use Rattle.sheet_layout.proofs.Lists.{pack-append, pack-length, unpack-length, unpack-append}
 
 module _ (k : ℕ) (l : List ℕ) (at i : ℕ) (xs : List ℕ) where
@@ -30,11 +30,11 @@ module _ {A : Type 0} (f : ℕ → A) (k : ℕ) (l : List A) (b : List ℕ) (at 
       let e : i ≡ 0 + length (map f (unpack k i b at)) = simp (length-map, unpack-length, zero-add) in
       sets_then l 0 i (map f (unpack k i b at)) (f (number k b (at + k * i)) ∷ []) e ∙ rw (unpack-append k i 1, map-append, mul_comm i k)
 
-  pub read-turn : {s : List A} (v : A) → s ≡ sets l 0 (map f (unpack k i b at)) → v ≡ f (number k b (at + k * i)) → set s i v ≡ sets l 0 (map f (unpack k (i + 1) b at))
-  read-turn v p q = rw (p, q) read_next
+  pub read_turn : {s : List A} (v : A) → s ≡ sets l 0 (map f (unpack k i b at)) → v ≡ f (number k b (at + k * i)) → set s i v ≡ sets l 0 (map f (unpack k (i + 1) b at))
+  read_turn v p q = rw (p, q) read_next
 
-  pub read-end : {s : List A} → i ≡ length l → s ≡ sets l 0 (map f (unpack k i b at)) → s ≡ map f (unpack k (length l) b at)
-  read-end e p = p ∙ sets-all l (map f (unpack k i b at)) (simp (length-map, unpack-length) e) ∙ rw e
+  pub read_end : {s : List A} → i ≡ length l → s ≡ sets l 0 (map f (unpack k i b at)) → s ≡ map f (unpack k (length l) b at)
+  read_end e p = p ∙ sets_all l (map f (unpack k i b at)) (simp (length-map, unpack-length) e) ∙ rw e
 
 -- numbers read as they are
 pub map_id : (xs : List ℕ) → map (λ x. x) xs ≡ xs

@@ -16,24 +16,24 @@ use Rattle.sheet.specs.Bytes.{trailer_length}
 use Rattle.sheet_rows.specs.Kinds.{known_kind, within_counts}
 use Rattle.sheet.specs.Writer.{malformed}
 use Rattle.sheet_laws.specs.Reading.{none-length}
-use Rattle.sheet.specs.Checker.{kindIn, verticesIn, facesIn, stationsIn, pointerIn, pointerFor, rowsStart, rowStart, rowLength, parse, wrongLength, openingCause, rowsPart, rowPart}
+use Rattle.sheet.specs.Checker.{kind_in, vertices_in, faces_in, stations_in, pointer_in, pointer_for, rows_start, row_start, row_length, parse, wrong_length, opening_cause, rows_part, row_part}
 use Rattle.sheet_readers.specs.Opened.{Opened}
-use Rattle.sheet_readers.proofs.Parsed.{malformed-parsed, many-parsed}
+use Rattle.sheet_readers.proofs.Parsed.{malformed_parsed, many_parsed}
 
 module _ (b : List ℕ) where
   -- what is known of bytes that 16, 1 and 2 let through
-  pub opened : openingCause b ≡ None → Opened b
-  unfolding openingCause
+  pub opened : opening_cause b ≡ None → Opened b
+  unfolding opening_cause
   opened e =
-      let a = both (wrongLength b) _ e in
+      let a = both (wrong_length b) _ e in
       let c = both (malformed (parse b)) _ a.1 in
       let w = none-length b a.0 in
-      let t = holds (within_counts (verticesIn b) (facesIn b) (stationsIn b)) TooMany (sym (many-parsed b) ∙ c.1) in
-      let u = counts_each (verticesIn b) (facesIn b) (stationsIn b) t in
+      let t = holds (within_counts (vertices_in b) (faces_in b) (stations_in b)) TooMany (sym (many_parsed b) ∙ c.1) in
+      let u = counts_each (vertices_in b) (faces_in b) (stations_in b) t in
       record {
         trailer = w.0;
         whole = w.1.1;
-        known = holds _ Malformed (sym (malformed-parsed b) ∙ c.0);
+        known = holds _ Malformed (sym (malformed_parsed b) ∙ c.0);
         vertices = u.0;
         faces = u.1;
         stations = u.2;
@@ -41,69 +41,69 @@ module _ (b : List ℕ) where
 
   -- ---- as the code tests it
 
-  pub short : length b < trailer_length → Refused WrongLength ≡ wrongLength b
-  unfolding wrongLength
+  pub short : length b < trailer_length → Refused WrongLength ≡ wrong_length b
+  unfolding wrong_length
   short h = rw (lt-leb trailer_length (length b) h)
 
-  module _ (n : ℕ) (h : trailer_length ≤ length b) (e : n ≡ pointerFor b) where
-    pub wrong-pointer : (p : ℕ) → p ≡ pointerIn b → (p ≡ n → ⊥) → Refused WrongLength ≡ wrongLength b
-    unfolding wrongLength
-    wrong-pointer p ep u = rw (le-leb trailer_length (length b) h, ne_eqb (pointerIn b) (pointerFor b) (λ q. u (ep ∙ q ∙ sym e)))
+  module _ (n : ℕ) (h : trailer_length ≤ length b) (e : n ≡ pointer_for b) where
+    pub wrong_pointer : (p : ℕ) → p ≡ pointer_in b → (p ≡ n → ⊥) → Refused WrongLength ≡ wrong_length b
+    unfolding wrong_length
+    wrong_pointer p ep u = rw (le-leb trailer_length (length b) h, ne_eqb (pointer_in b) (pointer_for b) (λ q. u (ep ∙ q ∙ sym e)))
 
-    module _ (p : ℕ) (ep : p ≡ pointerIn b) (q : p ≡ n) where
-      right-pointer : eqb (pointerIn b) (pointerFor b) ≡ true
-      right-pointer = eq-eqb (pointerIn b) (pointerFor b) (sym ep ∙ q ∙ e)
+    module _ (p : ℕ) (ep : p ≡ pointer_in b) (q : p ≡ n) where
+      right-pointer : eqb (pointer_in b) (pointer_for b) ≡ true
+      right-pointer = eq-eqb (pointer_in b) (pointer_for b) (sym ep ∙ q ∙ e)
 
-      pub not-whole : (length b ≡ n + trailer_length → ⊥) → Refused WrongLength ≡ wrongLength b
-      unfolding wrongLength
-      not-whole u = rw (le-leb trailer_length (length b) h, right-pointer, ne_eqb (length b) (pointerFor b + trailer_length) (λ w. u (w ∙ ap (λ (m : ℕ). m + trailer_length) (sym e))))
+      pub not-whole : (length b ≡ n + trailer_length → ⊥) → Refused WrongLength ≡ wrong_length b
+      unfolding wrong_length
+      not-whole u = rw (le-leb trailer_length (length b) h, right-pointer, ne_eqb (length b) (pointer_for b + trailer_length) (λ w. u (w ∙ ap (λ (m : ℕ). m + trailer_length) (sym e))))
 
-      pub right-length : length b ≡ n + trailer_length → None ≡ wrongLength b
-      unfolding wrongLength
-      right-length w = rw (le-leb trailer_length (length b) h, right-pointer, eq-eqb (length b) (pointerFor b + trailer_length) (w ∙ ap (λ (m : ℕ). m + trailer_length) e))
+      pub right-length : length b ≡ n + trailer_length → None ≡ wrong_length b
+      unfolding wrong_length
+      right-length w = rw (le-leb trailer_length (length b) h, right-pointer, eq-eqb (length b) (pointer_for b + trailer_length) (w ∙ ap (λ (m : ℕ). m + trailer_length) e))
 
   -- 1 and 2 of what 16 lets through
-  pub refused-length : (r : Refusal) → wrongLength b ≡ Refused r → Refused r ≡ openingCause b
-  unfolding openingCause
+  pub refused-length : (r : Refusal) → wrong_length b ≡ Refused r → Refused r ≡ opening_cause b
+  unfolding opening_cause
   refused-length r e = rw e
 
-  module _ (e : wrongLength b ≡ None) where
-    pub unknown : known_kind (kindIn b) (verticesIn b) (facesIn b) ≡ false → Refused Malformed ≡ openingCause b
-    unfolding openingCause
-    unknown u = rw (e, malformed-parsed b, u)
+  module _ (e : wrong_length b ≡ None) where
+    pub unknown : known_kind (kind_in b) (vertices_in b) (faces_in b) ≡ false → Refused Malformed ≡ opening_cause b
+    unfolding opening_cause
+    unknown u = rw (e, malformed_parsed b, u)
 
-    pub too_many : known_kind (kindIn b) (verticesIn b) (facesIn b) ≡ true → within_counts (verticesIn b) (facesIn b) (stationsIn b) ≡ false → Refused TooMany ≡ openingCause b
-    unfolding openingCause
-    too_many k u = rw (e, malformed-parsed b, k, many-parsed b, u)
+    pub too_many : known_kind (kind_in b) (vertices_in b) (faces_in b) ≡ true → within_counts (vertices_in b) (faces_in b) (stations_in b) ≡ false → Refused TooMany ≡ opening_cause b
+    unfolding opening_cause
+    too_many k u = rw (e, malformed_parsed b, k, many_parsed b, u)
 
-    pub opens : known_kind (kindIn b) (verticesIn b) (facesIn b) ≡ true → within_counts (verticesIn b) (facesIn b) (stationsIn b) ≡ true → None ≡ openingCause b
-    unfolding openingCause
-    opens k u = rw (e, malformed-parsed b, k, many-parsed b, u)
+    pub opens : known_kind (kind_in b) (vertices_in b) (faces_in b) ≡ true → within_counts (vertices_in b) (faces_in b) (stations_in b) ≡ true → None ≡ opening_cause b
+    unfolding opening_cause
+    opens k u = rw (e, malformed_parsed b, k, many_parsed b, u)
 
   -- ---- the parts
 
-  pub no_rows : (r : Refusal) → openingCause b ≡ Refused r → ◌≡◌ {A = List ℕ} [] (rowsPart b)
-  unfolding rowsPart
+  pub no_rows : (r : Refusal) → opening_cause b ≡ Refused r → ◌≡◌ {A = List ℕ} [] (rows_part b)
+  unfolding rows_part
   no_rows r e = rw e
 
-  pub rows-from : openingCause b ≡ None → (start end : ℕ) → start ≡ rowsStart b → end ≡ length b - trailer_length → take (end - start) (drop start b) ≡ rowsPart b
-  unfolding rowsPart
+  pub rows-from : opening_cause b ≡ None → (start end : ℕ) → start ≡ rows_start b → end ≡ length b - trailer_length → take (end - start) (drop start b) ≡ rows_part b
+  unfolding rows_part
   rows-from e start end p q =
       let o = opened e in
-      let m : end - start ≡ rowLength b * stationsIn b = omega (arith, o.whole) in
+      let m : end - start ≡ row_length b * stations_in b = omega (arith, o.whole) in
       rw (e, m, p)
 
-  pub no_row : (i : ℕ) (r : Refusal) → openingCause b ≡ Refused r → ◌≡◌ {A = List ℕ} [] (rowPart b i)
-  unfolding rowPart
+  pub no_row : (i : ℕ) (r : Refusal) → opening_cause b ≡ Refused r → ◌≡◌ {A = List ℕ} [] (row_part b i)
+  unfolding row_part
   no_row i r e = rw e
 
-  pub past-rows : (i : ℕ) → openingCause b ≡ None → stationsIn b ≤ i → ◌≡◌ {A = List ℕ} [] (rowPart b i)
-  unfolding rowPart
-  past-rows i e h = rw (e, le-ltb i (stationsIn b) h)
+  pub past_rows : (i : ℕ) → opening_cause b ≡ None → stations_in b ≤ i → ◌≡◌ {A = List ℕ} [] (row_part b i)
+  unfolding row_part
+  past_rows i e h = rw (e, le-ltb i (stations_in b) h)
 
-  pub row_from : (i : ℕ) → openingCause b ≡ None → i < stationsIn b → (start end : ℕ) → start ≡ rowStart b i → end ≡ start + rowLength b
-      → take (end - start) (drop start b) ≡ rowPart b i
-  unfolding rowPart
+  pub row_from : (i : ℕ) → opening_cause b ≡ None → i < stations_in b → (start end : ℕ) → start ≡ row_start b i → end ≡ start + row_length b
+      → take (end - start) (drop start b) ≡ row_part b i
+  unfolding row_part
   row_from i e h start end p q =
-      let m : end - start ≡ rowLength b = omega arith in
-      rw (e, lt-ltb i (stationsIn b) h, m, p)
+      let m : end - start ≡ row_length b = omega arith in
+      rw (e, lt-ltb i (stations_in b) h, m, p)

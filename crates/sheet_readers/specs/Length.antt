@@ -7,10 +7,10 @@ use Rattle.refusals.specs.declared.Cause.TheVariants.{None}
 use Rattle.refusals.proofs.Causes.{both, holds}
 use Rattle.sheet_rows.specs.Kinds.{known_kind, within_counts}
 use Rattle.sheet.specs.Input.{SheetInput, vertex_count, face_count, station_count}
-use Rattle.sheet.specs.Bytes.{sheetLength}
+use Rattle.sheet.specs.Bytes.{sheet_size}
 use Rattle.sheet.specs.Writer.{malformed, too_many}
-use Rattle.sheet.specs.Checker.{kindIn, verticesIn, facesIn, stationsIn, parse, wrongLength, openingCause}
-use Rattle.sheet_laws.specs.Reading.{kind-read, vertices-read, faces-read, stations-read, none-length}
+use Rattle.sheet.specs.Checker.{kind_in, vertices_in, faces_in, stations_in, parse, wrong_length, opening_cause}
+use Rattle.sheet_laws.specs.Reading.{kind_read, vertices_read, faces_read, stations_read, none-length}
 use Rattle.sheet_readers.specs.Parts.{length_of}
 
 -- the last of four tests that all hold
@@ -20,7 +20,7 @@ last true true false w e = cc
 last true false v w e = cc
 last false u v w e = cc
 
-pub length_of_input : (s : SheetInput) → malformed s ≡ None → too_many s ≡ None → length_of s.kind (vertex_count s) (face_count s) (station_count s) ≡ sheetLength s
+pub length_of_input : (s : SheetInput) → malformed s ≡ None → too_many s ≡ None → length_of s.kind (vertex_count s) (face_count s) (station_count s) ≡ sheet_size s
 unfolding malformed too_many length_of
 length_of_input s e u =
     let k : known_kind s.kind (vertex_count s) (face_count s) ≡ true =
@@ -28,11 +28,11 @@ length_of_input s e u =
     let w : within_counts (vertex_count s) (face_count s) (station_count s) ≡ true = holds _ TooMany u in
     rw (k, w)
 
-pub length_of-bytes : (b : List ℕ) → openingCause b ≡ None → length_of (kindIn b) (verticesIn b) (facesIn b) (stationsIn b) ≡ length b
-unfolding openingCause
+pub length_of-bytes : (b : List ℕ) → opening_cause b ≡ None → length_of (kind_in b) (vertices_in b) (faces_in b) (stations_in b) ≡ length b
+unfolding opening_cause
 length_of-bytes b e =
-    let a = both (wrongLength b) _ e in
+    let a = both (wrong_length b) _ e in
     let c = both (malformed (parse b)) (too_many (parse b)) a.1 in
     let l = length_of_input (parse b) c.0 c.1 in
     let w = none-length b a.0 in
-    (rw (kind-read b, vertices-read b, faces-read b, stations-read b) at l) ∙ sym w.1.1
+    (rw (kind_read b, vertices_read b, faces_read b, stations_read b) at l) ∙ sym w.1.1

@@ -5,7 +5,7 @@ use Rattle.std.specs.Float.Ieee.{of_bits}
 use Rattle.refusals.specs.Answer.{Answer, value, refused, or_answer}
 use Rattle.sheet_rows.specs.Kinds.{known_kind, within_counts}
 use Rattle.sheet.specs.Bytes.{trailer_length, pointer_of}
-use Rattle.sheet.specs.Checker.{trailer, kindIn, verticesIn, facesIn, stationsIn, volumeIn, stationsStart, vectorIn, openingCause, unless_refused}
+use Rattle.sheet.specs.Checker.{trailer, kind_in, vertices_in, faces_in, stations_in, volume_in, stations_start, vector_in, opening_cause, unless_refused}
 use Rattle.sheet_readers.specs.declared.TrailerFields.{TrailerFields}
 use Rattle.sheet_readers.specs.declared.TrailerAnswer.{TrailerAnswer}
 use Rattle.sheet_readers.specs.declared.TrailerAnswer as ofTrailer
@@ -15,28 +15,28 @@ abbrev pub station_length : ℕ
 station_length = 24
 
 module _ (b : List ℕ) where
-  abbrev pub stationStart : ℕ → ℕ
-  stationStart i = stationsStart b + station_length * i
+  abbrev pub station_start : ℕ → ℕ
+  station_start i = stations_start b + station_length * i
 
   -- station i; nothing past the last, or where 16, 1 or 2 refuses
-  unfoldable pub stationPart : ℕ → List ℕ
-  stationPart i = unless_refused (openingCause b) (cond (ltb i (stationsIn b)) (take station_length (drop (stationStart i) b)) [])
+  unfoldable pub station_part : ℕ → List ℕ
+  station_part i = unless_refused (opening_cause b) (cond (ltb i (stations_in b)) (take station_length (drop (station_start i) b)) [])
 
   -- all that stands in the trailer but the pointer
-  unfoldable pub trailerFields : TrailerFields
-  trailerFields = record {
-    kind = kindIn b;
-    vertices = verticesIn b;
-    faces = facesIn b;
-    stations = stationsIn b;
-    magnetisation = vectorIn b (trailer b + 16);
-    ambient = vectorIn b (trailer b + 40);
-    volume = of_bits binary64 (volumeIn b);
+  unfoldable pub trailer_fields : TrailerFields
+  trailer_fields = record {
+    kind = kind_in b;
+    vertices = vertices_in b;
+    faces = faces_in b;
+    stations = stations_in b;
+    magnetisation = vector_in b (trailer b + 16);
+    ambient = vector_in b (trailer b + 40);
+    volume = of_bits binary64 (volume_in b);
   }
 
   -- or the refusal, 16, 1 or 2
-  unfoldable pub sheetTrailer : Answer TrailerFields
-  sheetTrailer = or_answer (openingCause b) (value trailerFields)
+  unfoldable pub sheet_trailer : Answer TrailerFields
+  sheet_trailer = or_answer (opening_cause b) (value trailer_fields)
 
 -- the answer of each case
 abbrev pub trailer_answer : TrailerAnswer → Answer TrailerFields

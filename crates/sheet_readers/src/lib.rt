@@ -5,9 +5,9 @@
 ghost use Rattle.std.specs.Prelude.{◌≡◌, ◌+◌, ◌*◌, ◌≤◌, length};
 ghost use Rattle.sheet_rows.specs.Kinds.{row_width};
 ghost use Rattle.sheet.specs.Bytes.{trailer_length, pointer_of};
-ghost use Rattle.sheet.specs.Checker.{trailer, kindIn, verticesIn, facesIn, stationsIn, volumeIn, pointerIn, stationsStart, rowStart, vectorIn, wrongLength, openingCause, rowsPart, rowPart};
+ghost use Rattle.sheet.specs.Checker.{trailer, kind_in, vertices_in, faces_in, stations_in, volume_in, pointer_in, stations_start, row_start, vector_in, wrong_length, opening_cause, rows_part, row_part};
 ghost use Rattle.sheet_readers.specs.Opened.{Opened};
-ghost use Rattle.sheet_readers.specs.Parts.{stationStart, stationPart, trailerFields, sheetTrailer, trailer_answer, length_of};
+ghost use Rattle.sheet_readers.specs.Parts.{station_start, station_part, trailer_fields, sheet_trailer, trailer_answer, length_of};
 
 use newtonian::Vector;
 use refusals::{Cause, Refusal};
@@ -48,28 +48,28 @@ pub fn trailer(sheet: &[u8]) -> usize
 
 pub fn kind(sheet: &[u8]) -> u32
     requires { trailer_length ≤ length sheet.now }
-    ensures { result ≡ kindIn sheet.now }
+    ensures { result ≡ kind_in sheet.now }
 {
     sheet_layout::u32_at(sheet, sheet.len() - TRAILER_LENGTH)
 }
 
 pub fn vertices(sheet: &[u8]) -> u32
     requires { trailer_length ≤ length sheet.now }
-    ensures { result ≡ verticesIn sheet.now }
+    ensures { result ≡ vertices_in sheet.now }
 {
     sheet_layout::u32_at(sheet, sheet.len() - TRAILER_LENGTH + 4)
 }
 
 pub fn faces(sheet: &[u8]) -> u32
     requires { trailer_length ≤ length sheet.now }
-    ensures { result ≡ facesIn sheet.now }
+    ensures { result ≡ faces_in sheet.now }
 {
     sheet_layout::u32_at(sheet, sheet.len() - TRAILER_LENGTH + 8)
 }
 
 pub fn stations(sheet: &[u8]) -> u32
     requires { trailer_length ≤ length sheet.now }
-    ensures { result ≡ stationsIn sheet.now }
+    ensures { result ≡ stations_in sheet.now }
 {
     sheet_layout::u32_at(sheet, sheet.len() - TRAILER_LENGTH + 12)
 }
@@ -77,14 +77,14 @@ pub fn stations(sheet: &[u8]) -> u32
 // The volume's bits.
 pub fn volume_bits(sheet: &[u8]) -> u64
     requires { trailer_length ≤ length sheet.now }
-    ensures { result ≡ volumeIn sheet.now }
+    ensures { result ≡ volume_in sheet.now }
 {
     sheet_layout::u64_at(sheet, sheet.len() - TRAILER_LENGTH + 64)
 }
 
 fn pointer(sheet: &[u8]) -> u64
     requires { trailer_length ≤ length sheet.now }
-    ensures { result ≡ pointerIn sheet.now }
+    ensures { result ≡ pointer_in sheet.now }
 {
     sheet_layout::u64_at(sheet, sheet.len() - TRAILER_LENGTH + 72)
 }
@@ -92,7 +92,7 @@ fn pointer(sheet: &[u8]) -> u64
 // The three doubles from place at on.
 pub fn vector_at(sheet: &[u8], at: usize) -> Vector
     requires { at + 24 ≤ length sheet.now }
-    ensures { result ≡ vectorIn sheet.now at }
+    ensures { result ≡ vector_in sheet.now at }
 {
     Vector {
         x: f64_at(sheet, at),
@@ -103,7 +103,7 @@ pub fn vector_at(sheet: &[u8], at: usize) -> Vector
 
 fn trailer_fields(sheet: &[u8]) -> TrailerFields
     requires { trailer_length ≤ length sheet.now }
-    ensures { result ≡ trailerFields sheet.now }
+    ensures { result ≡ trailer_fields sheet.now }
 {
     let at = trailer(sheet);
     TrailerFields {
@@ -139,7 +139,7 @@ fn pointer_of(kind: u32, vertices: u32, faces: u32, stations: u32) -> usize
 // Where the stations begin.
 pub fn stations_start(sheet: &[u8]) -> usize
     requires { Opened sheet.now }
-    ensures { result ≡ stationsStart sheet.now }
+    ensures { result ≡ stations_start sheet.now }
 {
     24 * (vertices(sheet) as usize) + 36 * (faces(sheet) as usize)
 }
@@ -147,7 +147,7 @@ pub fn stations_start(sheet: &[u8]) -> usize
 // Where station i begins.
 fn station_start(sheet: &[u8], i: u32) -> usize
     requires { Opened sheet.now }
-    ensures { result ≡ stationStart sheet.now i }
+    ensures { result ≡ station_start sheet.now i }
 {
     stations_start(sheet) + STATION_LENGTH * (i as usize)
 }
@@ -155,7 +155,7 @@ fn station_start(sheet: &[u8], i: u32) -> usize
 // Where row i begins.
 pub fn row_start(sheet: &[u8], i: u32) -> usize
     requires { Opened sheet.now }
-    ensures { result ≡ rowStart sheet.now i }
+    ensures { result ≡ row_start sheet.now i }
 {
     stations_start(sheet) + 24 * (stations(sheet) as usize) + rows_length(kind(sheet), i)
 }
@@ -163,7 +163,7 @@ pub fn row_start(sheet: &[u8], i: u32) -> usize
 // ---- the causes 16, 1 and 2
 
 fn wrong_length(sheet: &[u8]) -> Cause
-    ensures { result ≡ wrongLength sheet.now }
+    ensures { result ≡ wrong_length sheet.now }
 {
     if sheet.len() < TRAILER_LENGTH {
         return Cause::Refused(Refusal::WrongLength);
@@ -180,7 +180,7 @@ fn wrong_length(sheet: &[u8]) -> Cause
 
 // The causes 16, 1 and 2.
 pub fn opening_cause(sheet: &[u8]) -> Cause
-    ensures { result ≡ openingCause sheet.now }
+    ensures { result ≡ opening_cause sheet.now }
 {
     let length = wrong_length(sheet);
     if let Cause::Refused(r) = length {
@@ -202,7 +202,7 @@ pub fn opening_cause(sheet: &[u8]) -> Cause
 
 // The trailer: 16, 1, 2.
 pub fn sheet_trailer(sheet: &[u8]) -> TrailerAnswer
-    ensures { trailer_answer result ≡ sheetTrailer sheet.now }
+    ensures { trailer_answer result ≡ sheet_trailer sheet.now }
 {
     let opening = opening_cause(sheet);
     if let Cause::Refused(r) = opening {
@@ -213,7 +213,7 @@ pub fn sheet_trailer(sheet: &[u8]) -> TrailerAnswer
 
 // Station i; nothing past the last, or where 16, 1 or 2 refuses.
 pub fn sheet_station(sheet: &[u8], i: usize) -> &[u8]
-    ensures { result.now ≡ stationPart sheet.now i }
+    ensures { result.now ≡ station_part sheet.now i }
 {
     let opening = opening_cause(sheet);
     if let Cause::Refused(_) = opening {
@@ -230,7 +230,7 @@ pub fn sheet_station(sheet: &[u8], i: usize) -> &[u8]
 
 // The rows, from the first's first byte to the trailer; nothing where 16, 1 or 2 refuses.
 pub fn sheet_rows(sheet: &[u8]) -> &[u8]
-    ensures { result.now ≡ rowsPart sheet.now }
+    ensures { result.now ≡ rows_part sheet.now }
 {
     let opening = opening_cause(sheet);
     if let Cause::Refused(_) = opening {
@@ -243,7 +243,7 @@ pub fn sheet_rows(sheet: &[u8]) -> &[u8]
 
 // Row i; nothing past the last, or where 16, 1 or 2 refuses.
 pub fn sheet_row(sheet: &[u8], i: usize) -> &[u8]
-    ensures { result.now ≡ rowPart sheet.now i }
+    ensures { result.now ≡ row_part sheet.now i }
 {
     let opening = opening_cause(sheet);
     if let Cause::Refused(_) = opening {

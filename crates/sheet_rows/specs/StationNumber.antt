@@ -12,9 +12,9 @@ use Rattle.newtonian.specs.declared.Vector.{Vector}
 use Rattle.newtonian.specs.declared.Newtonian.{Newtonian}
 use Rattle.mesh.specs.Surface.{vertex}
 use Rattle.prism.specs.Prism.{prism_at}
-use Rattle.prism.specs.StationNumber.{prismAt-value, prismAt-too-deep}
+use Rattle.prism.specs.StationNumber.{prism_at-value, prism_at_too_deep}
 use Rattle.polyhedron.specs.Polyhedron.{polyhedron_at}
-use Rattle.polyhedron.specs.StationNumber.{polyhedronAt-value, polyhedronAt-too-many}
+use Rattle.polyhedron.specs.StationNumber.{polyhedron_at-value, polyhedron_at-too_many}
 use Rattle.sheet_rows.specs.declared.Row.{Row}
 use Rattle.sheet_rows.specs.Kinds.{is_mesh, axis_rule}
 use Rattle.sheet_rows.specs.Row.{field_at, row_from, in_row, row_at}
@@ -46,24 +46,24 @@ module _ (kind : ℕ) (m b : Vector) (i : ℕ) (p : Vector) (v : List Float) (f 
   unfolding row_at
   row_field r e = from_field kind m b (field_at kind i p v f) r e
 
-  pub fieldAt-value : (j : ℕ) (g : Newtonian) → field_at kind i p v f ≡ value g → field_at kind j p v f ≡ value g
+  pub field_at-value : (j : ℕ) (g : Newtonian) → field_at kind i p v f ≡ value g → field_at kind j p v f ≡ value g
   unfolding field_at
-  fieldAt-value j g e = by_kind (is_mesh kind) g (polyhedronAt-value i j p v f g) (prismAt-value (axis_rule kind) i j p (vertex v 0) (vertex v 1) g) e
+  field_at-value j g e = by_kind (is_mesh kind) g (polyhedron_at-value i j p v f g) (prism_at-value (axis_rule kind) i j p (vertex v 0) (vertex v 1) g) e
 
-  pub rowAt-value : (j : ℕ) (r : Row) → row_at kind m b i p v f ≡ value r → row_at kind m b j p v f ≡ value r
+  pub row_at-value : (j : ℕ) (r : Row) → row_at kind m b i p v f ≡ value r → row_at kind m b j p v f ≡ value r
   unfolding row_at
-  rowAt-value j r e =
+  row_at-value j r e =
       let h = from_field kind m b (field_at kind i p v f) r e in
-      ap (in_row kind m b) (fieldAt-value j r.field h.0) ∙ ap {B = Answer Row} value h.1
+      ap (in_row kind m b) (field_at-value j r.field h.0) ∙ ap {B = Answer Row} value h.1
 
   field-refusal : (j : ℕ) (r : Refusal) → field_at kind i p v f ≡ refused r
       → field_at kind j p v f ≡ refused (cond (is_mesh kind) (TooManyEdges j) (TooDeep j))
   unfolding field_at
   field-refusal j r e =
-      refused_by-kind (is_mesh kind) r (TooManyEdges j) (TooDeep j) (polyhedronAt-too-many i j p v f r)
-      (prismAt-too-deep (axis_rule kind) i j p (vertex v 0) (vertex v 1) r) e
+      refused_by-kind (is_mesh kind) r (TooManyEdges j) (TooDeep j) (polyhedron_at-too_many i j p v f r)
+      (prism_at_too_deep (axis_rule kind) i j p (vertex v 0) (vertex v 1) r) e
 
-  pub rowAt-refusal : (j : ℕ) (r : Refusal) → row_at kind m b i p v f ≡ refused r
+  pub row_at-refusal : (j : ℕ) (r : Refusal) → row_at kind m b i p v f ≡ refused r
       → row_at kind m b j p v f ≡ refused (cond (is_mesh kind) (TooManyEdges j) (TooDeep j))
   unfolding row_at
-  rowAt-refusal j r e = ap (in_row kind m b) (field-refusal j r (of_field kind m b (field_at kind i p v f) r e))
+  row_at-refusal j r e = ap (in_row kind m b) (field-refusal j r (of_field kind m b (field_at kind i p v f) r e))

@@ -13,8 +13,8 @@ use Rattle.carlson.specs.declared.RoundC.{RoundC}
 use Rattle.carlson.specs.CarlsonLoop.{max_rounds}
 use Rattle.carlson.specs.RoundLaws.{at_most}
 use Rattle.carlson.specs.Rc.{duplicate_c, test_c, A₀C, QC, duplications_c, rc_or, rc_value}
-use Rattle.carlson.specs.Logarithm.{exponent, fraction, midpoint, lnAt, lnBy, ln}
-use Rattle.carlson.specs.Arctangent.{with_sign, atanWithin, atanBy, atan2By, atan, atan2}
+use Rattle.carlson.specs.Logarithm.{exponent, fraction, midpoint, ln_at, ln_by, ln}
+use Rattle.carlson.specs.Arctangent.{with_sign, atan_within, atan_by, atan2_by, atan, atan2}
 use Rattle.special_laws.specs.RoundsTaken.{rc_rounds, ln_rounds, atan_rounds, atan2_rounds, WithinSix}
 use Rattle.special_laws.specs.ArgumentsOfRc.{in_ln, in_atan, in_atan_beyond}
 
@@ -58,11 +58,11 @@ atan2-rounds s c = go (is_nan s || is_nan c || eq s 0·0 || eq c 0·0)
 
 -- ---- R_C is used only where it takes at most six rounds: any two functions that agree at all such arguments give the same ln, atan and atan2
 module _ (R R' : Float → Float → Float) (agree : (x y : Float) → WithinSix x y → R x y ≡ R' x y) where
-  pub ln-depends : (x : Float) → lnBy R x ≡ lnBy R' x
-  unfolding lnBy lnAt
-  ln-depends nan = refl
-  ln-depends (inf s) = refl
-  ln-depends (fin s m e) = go (eqb m 0) s (above-none m)
+  pub ln_depends : (x : Float) → ln_by R x ≡ ln_by R' x
+  unfolding ln_by ln_at
+  ln_depends nan = refl
+  ln_depends (inf s) = refl
+  ln_depends (fin s m e) = go (eqb m 0) s (above-none m)
     where
       t : Float
       t = fraction m
@@ -76,9 +76,9 @@ module _ (R R' : Float → Float → Float) (agree : (x y : Float) → WithinSix
       go false true M = refl
       go false false M = ap at (agree (midpoint t ⊗ midpoint t) t (in_ln m (M tt)))
 
-  pub atan-depends : (z : Float) → atanBy R z ≡ atanBy R' z
-  unfolding atanBy atanWithin
-  atan-depends z = go (is_nan z) (le (abs z) 1·0) (λ t. t) (λ t. t) (λ t. t)
+  pub atan_depends : (z : Float) → atan_by R z ≡ atan_by R' z
+  unfolding atan_by atan_within
+  atan_depends z = go (is_nan z) (le (abs z) 1·0) (λ t. t) (λ t. t) (λ t. t)
     where
       w : Float
       w = 1·0 ⊘ z
@@ -90,9 +90,9 @@ module _ (R R' : Float → Float → Float) (agree : (x y : Float) → WithinSix
       go false true N H K = ap (λ (r : Float). z ⊗ r) (agree 1·0 (1·0 ⊕ z ⊗ z) (in_atan z (H tt)))
       go false false N H K = ap (λ (r : Float). with_sign z π/2 ⊖ w ⊗ r) (agree 1·0 (1·0 ⊕ w ⊗ w) (in_atan_beyond z (N tt) (K tt)))
 
-  pub atan2-depends : (s c : Float) → atan2By R s c ≡ atan2By R' s c
-  unfolding atan2By
-  atan2-depends s c = rw (atan-depends (s ⊘ c))
+  pub atan2_depends : (s c : Float) → atan2_by R s c ≡ atan2_by R' s c
+  unfolding atan2_by
+  atan2_depends s c = rw (atan_depends (s ⊘ c))
 
 -- ---- so no refusal can be seen: whatever number d stands for a refused R_C, ln, atan and atan2 are the same
 module _ (d : Float) where
@@ -100,17 +100,17 @@ module _ (d : Float) where
   unfolding rc_or
   agree x y w = rw w.answered
 
-  pub ln-not-refused : (x : Float) → lnBy (rc_or d) x ≡ ln x
+  pub ln-not-refused : (x : Float) → ln_by (rc_or d) x ≡ ln x
   unfolding ln
-  ln-not-refused x = ln-depends (rc_or d) rc_value agree x
+  ln-not-refused x = ln_depends (rc_or d) rc_value agree x
 
-  pub atan-not-refused : (z : Float) → atanBy (rc_or d) z ≡ atan z
+  pub atan-not-refused : (z : Float) → atan_by (rc_or d) z ≡ atan z
   unfolding atan
-  atan-not-refused z = atan-depends (rc_or d) rc_value agree z
+  atan-not-refused z = atan_depends (rc_or d) rc_value agree z
 
-  pub atan2-not-refused : (s c : Float) → atan2By (rc_or d) s c ≡ atan2 s c
+  pub atan2-not-refused : (s c : Float) → atan2_by (rc_or d) s c ≡ atan2 s c
   unfolding atan2
-  atan2-not-refused s c = atan2-depends (rc_or d) rc_value agree s c
+  atan2-not-refused s c = atan2_depends (rc_or d) rc_value agree s c
 
 -- ---- R_C itself takes at most 64 rounds, whatever x and y
 counts_one : (s : RoundC) → (duplicate_c s).n ≡ s.n + 1

@@ -15,7 +15,7 @@ use Rattle.special_rj.specs.Rj.{least_of, middle_of, greatest_of, p', rj, rj_abo
 use Rattle.special.specs.Domain.{in_domain}
 use Rattle.special_laws.specs.AbovePole.{unsigned, sub-unsigned, add-unsigned, Inner, p'-above, inner_of}
 use Rattle.special_laws.specs.NotBelowZero.{not_below_zero, ◌≼◌, zero_product, is_positive, under_positive, AtMostOneZero, of_domain}
-use Rattle.special_laws.specs.ThreeInOrder.{least-has, middle-has, greatest-has, middle-above, under-greatest, least_under}
+use Rattle.special_laws.specs.ThreeInOrder.{least-has, middle_has, greatest-has, middle_above, under_greatest, least_under}
 
 diff_unsigned : (y x : Float) → T (positive y) → T (not_below_zero x) → x ≼ y → T (unsigned (y ⊖ x))
 unfolding sub neg
@@ -23,13 +23,13 @@ diff_unsigned y nan p q h = absurd q
 diff_unsigned y (inf s) p q h = absurd q
 diff_unsigned y (fin false m e) p q h = let w = finite_unsigned_of_positive y p in sub-unsigned binary64 y (fin false m e) w tt (cross→le (fin false m e) y tt w h)
 diff_unsigned y (fin true (suc m) e) p q h = absurd q
-diff_unsigned y (fin true zero e) p q h = less-minus y p
+diff_unsigned y (fin true zero e) p q h = less_minus y p
   where
-    less-minus : (y : Float) → T (positive y) → T (unsigned (y ⊖ fin true zero e))
-    less-minus nan p = absurd p
-    less-minus (inf s) p = absurd p
-    less-minus (fin true n d) p = absurd p
-    less-minus (fin false n d) p = add-unsigned binary64 (fin false n d) (fin false zero e) tt tt
+    less_minus : (y : Float) → T (positive y) → T (unsigned (y ⊖ fin true zero e))
+    less_minus nan p = absurd p
+    less_minus (inf s) p = absurd p
+    less_minus (fin true n d) p = absurd p
+    less_minus (fin false n d) p = add-unsigned binary64 (fin false n d) (fin false zero e) tt tt
 
 positive-neg : (p : Float) → T (finite p) → T (lt p 0·0) → T (positive (neg p))
 unfolding lt neg of_bits
@@ -52,15 +52,15 @@ module _ (x y z s : Float) (w : AtMostOneZero x y z) (h : T (positive s)) where
       let a = least_of x y z in
       let b = middle_of x y z in
       let c = greatest_of x y z in
-      let b-pos : T (positive b) = is_positive b (middle-has x y z nb w.first w.second w.third) (middle-above x y z w) in
+      let b-pos : T (positive b) = is_positive b (middle_has x y z nb w.first w.second w.third) (middle_above x y z w) in
       let c_pos : T (positive c) =
-      is_positive c (greatest-has x y z nb w.first w.second w.third) (under_positive b c (under-greatest x y z w) (middle-above x y z w)) in
+      is_positive c (greatest-has x y z nb w.first w.second w.third) (under_positive b c (under_greatest x y z w) (middle_above x y z w)) in
       let b-un = finite_unsigned_of_positive b b-pos in
       let c-un = finite_unsigned_of_positive c c_pos in
       inner_of a b c s
-      (p'-above a b c s b-pos (middle-has x y z fit fx fy fz) c-un h
+      (p'-above a b c s b-pos (middle_has x y z fit fx fy fz) c-un h
       (diff_unsigned b a b-pos (least-has x y z nb w.first w.second w.third) (least_under x y z w))
-      (cross→le b c b-un c-un (under-greatest x y z w)))
+      (cross→le b c b-un c-un (under_greatest x y z w)))
 
 -- with a ≤ b ≤ c for x, y, z in order, R_J(a, b, c, p') is the R_J for p above zero
 pub inner_rj :

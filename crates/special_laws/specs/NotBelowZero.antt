@@ -79,17 +79,17 @@ not-nan (inf s) p = absurd p
 not-nan (fin s m e) p = refl
 
 module _ (u v : Float) (P : Float → Type 0) (p : P u) (q : P v) where
-  pub either-has : (b : Bool) → P (cond b v u)
-  either-has true = q
-  either-has false = p
+  pub either_has : (b : Bool) → P (cond b v u)
+  either_has true = q
+  either_has false = p
 
   pub min-has : P (min u v)
   unfolding min
-  min-has = either-has (is_nan u || lt v u)
+  min-has = either_has (is_nan u || lt v u)
 
   pub max-has : P (max u v)
   unfolding max
-  max-has = either-has (is_nan u || lt u v)
+  max-has = either_has (is_nan u || lt u v)
 
 module _ (u v : Float) (p : T (not_below_zero u)) (q : T (not_below_zero v)) where
   pub min-left : min u v ≼ u
@@ -116,8 +116,8 @@ module _ (u v : Float) (p : T (not_below_zero u)) (q : T (not_below_zero v)) whe
       go true e = le_refl (num v * den v)
       go false e = not-lt-le u v p q (false→T e)
 
-  pub min-under-max : min u v ≼ max u v
-  min-under-max = ≼_trans (min u v) u (max u v) min-left max-left
+  pub min_under_max : min u v ≼ max u v
+  min_under_max = ≼_trans (min u v) u (max u v) min-left max-left
 
 -- ---- not zero is above zero
 pub num-above : (x : Float) → T (not_below_zero x) → eq x 0·0 ≡ false → 0 < num x

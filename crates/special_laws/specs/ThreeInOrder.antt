@@ -13,7 +13,7 @@ use Rattle.doubles.proofs.Value.{same-value}
 use Rattle.doubles.proofs.Signs.{true→T, false→T}
 use Rattle.special_rj.specs.Rj.{least_of, middle_of, greatest_of}
 use Rattle.special.specs.Domain.{in_domain}
-use Rattle.special_laws.specs.NotBelowZero.{not_below_zero, ◌≼◌, ≼_trans, lt-less, not-lt-le, not-nan, min-has, max-has, min-left, max-left, max-right, min-under-max}
+use Rattle.special_laws.specs.NotBelowZero.{not_below_zero, ◌≼◌, ≼_trans, lt-less, not-lt-le, not-nan, min-has, max-has, min-left, max-left, max-right, min_under_max}
 use Rattle.special_laws.specs.NotBelowZero.{under_positive, OneAbove, AtMostOneZero, of_domain}
 
 -- the last three are x, y, z in some order
@@ -141,8 +141,8 @@ module _ (x y z : Float) (P : Float → Type 0) (p : P x) (q : P y) (r : P z) wh
   pub least-has : P (least_of x y z)
   least-has = min-has (min x y) z P (min-has x y P p q) r
 
-  pub middle-has : P (middle_of x y z)
-  middle-has = max-has (min x y) (min (max x y) z) P (min-has x y P p q) (min-has (max x y) z P (max-has x y P p q) r)
+  pub middle_has : P (middle_of x y z)
+  middle_has = max-has (min x y) (min (max x y) z) P (min-has x y P p q) (min-has (max x y) z P (max-has x y P p q) r)
 
   pub greatest-has : P (greatest_of x y z)
   greatest-has = max-has (max x y) z P (max-has x y P p q) r
@@ -154,19 +154,19 @@ module _ (x y z : Float) (w : AtMostOneZero x y z) where
   max-not-below : T (not_below_zero (max x y))
   max-not-below = max-has x y (λ (t : Float). T (not_below_zero t)) w.first w.second
 
-  inner-min-not-below : T (not_below_zero (min (max x y) z))
-  inner-min-not-below = min-has (max x y) z (λ (t : Float). T (not_below_zero t)) max-not-below w.third
+  inner_min-not-below : T (not_below_zero (min (max x y) z))
+  inner_min-not-below = min-has (max x y) z (λ (t : Float). T (not_below_zero t)) max-not-below w.third
 
   -- for two of the three are above zero
-  pub middle-above : 0 < num (middle_of x y z)
-  middle-above = go w.xy w.xz w.yz
+  pub middle_above : 0 < num (middle_of x y z)
+  middle_above = go w.xy w.xz w.yz
     where
       by_first : 0 < num x → 0 < num y → 0 < num (middle_of x y z)
-      by_first h k = under_positive (min x y) (middle_of x y z) (max-left (min x y) (min (max x y) z) min-not-below inner-min-not-below) (min-has x y (λ (t : Float). 0 < num t) h k)
+      by_first h k = under_positive (min x y) (middle_of x y z) (max-left (min x y) (min (max x y) z) min-not-below inner_min-not-below) (min-has x y (λ (t : Float). 0 < num t) h k)
 
       by-second : 0 < num (max x y) → 0 < num z → 0 < num (middle_of x y z)
       by-second h k =
-          under_positive (min (max x y) z) (middle_of x y z) (max-right (min x y) (min (max x y) z) min-not-below inner-min-not-below) (min-has (max x y) z (λ (t : Float). 0 < num t) h k)
+          under_positive (min (max x y) z) (middle_of x y z) (max-right (min x y) (min (max x y) z) min-not-below inner_min-not-below) (min-has (max x y) z (λ (t : Float). 0 < num t) h k)
 
       go : OneAbove x y → OneAbove x z → OneAbove y z → 0 < num (middle_of x y z)
       go (inl h) b (inl k) = by_first h k
@@ -174,24 +174,24 @@ module _ (x y z : Float) (w : AtMostOneZero x y z) where
       go (inr h) (inl k) c = by_first k h
       go (inr h) (inr k) c = by-second (under_positive y (max x y) (max-right x y w.first w.second) h) k
 
-  pub under-greatest : middle_of x y z ≼ greatest_of x y z
-  under-greatest =
+  pub under_greatest : middle_of x y z ≼ greatest_of x y z
+  under_greatest =
       max-has (min x y) (min (max x y) z) (λ (t : Float). t ≼ greatest_of x y z)
-      (≼_trans (min x y) (max x y) (greatest_of x y z) (min-under-max x y w.first w.second) (max-left (max x y) z max-not-below w.third))
-      (min-under-max (max x y) z max-not-below w.third)
+      (≼_trans (min x y) (max x y) (greatest_of x y z) (min_under_max x y w.first w.second) (max-left (max x y) z max-not-below w.third))
+      (min_under_max (max x y) z max-not-below w.third)
 
   pub least_under : least_of x y z ≼ middle_of x y z
   least_under =
       ≼_trans (least_of x y z) (min x y) (middle_of x y z) (min-left (min x y) z min-not-below w.third)
-      (max-left (min x y) (min (max x y) z) min-not-below inner-min-not-below)
+      (max-left (min x y) (min (max x y) z) min-not-below inner_min-not-below)
 
-  in-ascending : (lt (middle_of x y z) (least_of x y z) ≡ false) × (lt (greatest_of x y z) (middle_of x y z) ≡ false)
-  in-ascending =
+  in_ascending : (lt (middle_of x y z) (least_of x y z) ≡ false) × (lt (greatest_of x y z) (middle_of x y z) ≡ false)
+  in_ascending =
       let nb : Float → Type 0 = λ (t : Float). T (not_below_zero t) in
       let l = least-has x y z nb w.first w.second w.third in
-      let m = middle-has x y z nb w.first w.second w.third in
+      let m = middle_has x y z nb w.first w.second w.third in
       let g = greatest-has x y z nb w.first w.second w.third in
-      (not-less (least_of x y z) (middle_of x y z) l m least_under, not-less (middle_of x y z) (greatest_of x y z) m g under-greatest)
+      (not-less (least_of x y z) (middle_of x y z) l m least_under, not-less (middle_of x y z) (greatest_of x y z) m g under_greatest)
 
 pub ascending : (x y z : Float) → in_domain x y z ≡ true → (lt (middle_of x y z) (least_of x y z) ≡ false) × (lt (greatest_of x y z) (middle_of x y z) ≡ false)
-ascending x y z d = in-ascending x y z (of_domain x y z d)
+ascending x y z d = in_ascending x y z (of_domain x y z d)

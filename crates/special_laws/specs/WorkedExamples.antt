@@ -17,8 +17,8 @@ use Rattle.carlson.specs.declared.Integral.TheVariants.{Value, Refused}
 use Rattle.carlson.specs.Rounds.{rounds_from}
 use Rattle.carlson.specs.CarlsonLoop.{quarter, loop_test}
 use Rattle.carlson.specs.Rc.{duplicate_c, duplications_c, series_c, rc_above, rc, rc_or}
-use Rattle.carlson.specs.Logarithm.{lnAt, lnBy, ln}
-use Rattle.carlson.specs.Arctangent.{atanWithin, atanBy, atan}
+use Rattle.carlson.specs.Logarithm.{ln_at, ln_by, ln}
+use Rattle.carlson.specs.Arctangent.{atan_within, atan_by, atan}
 use Rattle.special_rf_rd.specs.Duplication.{max_distance, series}
 use Rattle.special_rf_rd.specs.Rf.{duplicate_f, series_f, duplications_f, rf}
 use Rattle.special_rf_rd.specs.Rd.{duplicate_d, series_d, duplications_d, rd}
@@ -38,11 +38,11 @@ unfolding rc_rounds duplications_c rounds_from duplicate_c quarter loop_test abs
 rc_rounds_of_π = refl
 
 pub ln_of_2 : ln 2·0 ≡ LN2
-unfolding ln lnBy lnAt rc_or rc rc_above duplications_c rounds_from duplicate_c quarter loop_test series_c abs Root of_int of_bits add sub mul div lt le eq
+unfolding ln ln_by ln_at rc_or rc rc_above duplications_c rounds_from duplicate_c quarter loop_test series_c abs Root of_int of_bits add sub mul div lt le eq
 ln_of_2 = refl
 
 pub atan_of_1 : atan 1·0 ≡ π ⊘ 4·0
-unfolding atan atanBy atanWithin rc_or rc rc_above duplications_c rounds_from duplicate_c quarter loop_test series_c abs Root of_bits add sub mul div lt le eq is_nan
+unfolding atan atan_by atan_within rc_or rc rc_above duplications_c rounds_from duplicate_c quarter loop_test series_c abs Root of_bits add sub mul div lt le eq is_nan
 atan_of_1 = refl
 
 pub atan_rounds_of_1 : atan_rounds 1·0 ≡ 3

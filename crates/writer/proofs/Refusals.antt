@@ -20,7 +20,7 @@ use Rattle.sheet_rows.specs.Row.{is_finite_row, row_cause}
 use Rattle.sheet_rows.specs.declared.Row.{Row}
 use Rattle.sheet_rows.specs.RowRefusals.{row_at-refused}
 use Rattle.sheet.specs.Input.{SheetInput, station_at, station_count, row_at}
-use Rattle.sheet.specs.Writer.{zeroes_out, stationCause}
+use Rattle.sheet.specs.Writer.{zeroes_out, station_cause}
 
 -- if c refuses, P holds of the refusal
 abbrev pub Of : (Refusal → Type 0) → Cause → Type 0
@@ -40,37 +40,37 @@ abbrev pub Late : Refusal → Type 0
 Late r = (leaves_work r ≡ false) × (zeroes_out r ≡ true)
 
 module _ (P : Refusal → Type 0) where
-  pub of-else : (c d : Cause) → Of P c → Of P d → Of P (or_else c d)
-  of-else None d p q = q
-  of-else (Refused r) d p q = p
+  pub of_else : (c d : Cause) → Of P c → Of P d → Of P (or_else c d)
+  of_else None d p q = q
+  of_else (Refused r) d p q = p
 
-  pub of-unless : (t : Bool) (r : Refusal) → P r → Of P (unless t r)
-  of-unless true r h = tt
-  of-unless false r h = h
+  pub of_unless : (t : Bool) (r : Refusal) → P r → Of P (unless t r)
+  of_unless true r h = tt
+  of_unless false r h = h
 
-  pub of-first : (n : ℕ) (c : ℕ → Cause) → ((i : ℕ) → Of P (c i)) → Of P (first_of n c)
+  pub of_first : (n : ℕ) (c : ℕ → Cause) → ((i : ℕ) → Of P (c i)) → Of P (first_of n c)
   unfolding first_of
-  of-first zero c h = tt
-  of-first (suc n) c h = of-else (first_of n c) (c n) (of-first n c h) (h n)
+  of_first zero c h = tt
+  of_first (suc n) c h = of_else (first_of n c) (c n) (of_first n c h) (h n)
 
-  of-scan : (n : ℕ) (t : ℕ → Bool) (r : ℕ → Refusal) → ((i : ℕ) → P (r i)) → Of P (first_of n (λ i. unless (t i) (r i)))
-  of-scan n t r h = of-first n (λ i. unless (t i) (r i)) (λ i. of-unless (t i) (r i) (h i))
+  of_scan : (n : ℕ) (t : ℕ → Bool) (r : ℕ → Refusal) → ((i : ℕ) → P (r i)) → Of P (first_of n (λ i. unless (t i) (r i)))
+  of_scan n t r h = of_first n (λ i. unless (t i) (r i)) (λ i. of_unless (t i) (r i) (h i))
 
 pub of_limits : (v : List Float) → Of Early (out_of_limits v)
 unfolding out_of_limits leaves_work
-of_limits v = of-scan Early (length v) (in_limits v) (λ i. OutOfLimits) (λ i. (refl, refl))
+of_limits v = of_scan Early (length v) (in_limits v) (λ i. OutOfLimits) (λ i. (refl, refl))
 
 pub of_vertex : (n : ℕ) (f : List ℕ) → Of LeavesOut (no_such_vertex n f)
 unfolding no_such_vertex
-of_vertex n f = of-scan LeavesOut (length f) (names_vertex n f) (λ i. NoSuchVertex (i / 3)) (λ i. refl)
+of_vertex n f = of_scan LeavesOut (length f) (names_vertex n f) (λ i. NoSuchVertex (i / 3)) (λ i. refl)
 
 pub of_order : (v : List Float) (f o : List ℕ) → Of LeavesOut (order_cause v f o)
 unfolding order_cause faces_cause flipped_edge open_edge degenerate_face inverted
 of_order v f o =
-    of-else LeavesOut (flipped_edge f o) (or_else (open_edge f o) (faces_cause v f)) (of-scan LeavesOut (length f) (occurs_once f o) (flipped_at f o) (λ i. refl))
-    (of-else LeavesOut (open_edge f o) (faces_cause v f) (of-scan LeavesOut (length f) (reverse_occurs f o) (open_at f o) (λ i. refl))
-    (of-else LeavesOut (degenerate_face v f) (inverted v f) (of-scan LeavesOut (face_count f) (has_normal v f) (λ k. Degenerate k) (λ i. refl))
-    (of-unless LeavesOut (lt 0·0 (volume v f)) Inverted refl)))
+    of_else LeavesOut (flipped_edge f o) (or_else (open_edge f o) (faces_cause v f)) (of_scan LeavesOut (length f) (occurs_once f o) (flipped_at f o) (λ i. refl))
+    (of_else LeavesOut (open_edge f o) (faces_cause v f) (of_scan LeavesOut (length f) (reverse_occurs f o) (open_at f o) (λ i. refl))
+    (of_else LeavesOut (degenerate_face v f) (inverted v f) (of_scan LeavesOut (face_count f) (has_normal v f) (λ k. Degenerate k) (λ i. refl))
+    (of_unless LeavesOut (lt 0·0 (volume v f)) Inverted refl)))
 
 -- ---- the stations
 
@@ -80,12 +80,12 @@ late i r h = ⊎_elim (λ e. rw e (refl, refl)) (λ e. rw e (refl, refl)) h
 
 of_row : (kind i : ℕ) (a : Answer Row) → ((r : Refusal) → a ≡ refused r → Late r) → Of Late (row_cause kind i a)
 unfolding row_cause leaves_work
-of_row kind i (value row) h = of-unless Late (is_finite_row kind row) (NotFinite i) (refl, refl)
+of_row kind i (value row) h = of_unless Late (is_finite_row kind row) (NotFinite i) (refl, refl)
 of_row kind i (refused r) h = h r refl
 
-of_station : (s : SheetInput) (i : ℕ) → Of Late (stationCause s i)
-unfolding stationCause row_at
+of_station : (s : SheetInput) (i : ℕ) → Of Late (station_cause s i)
+unfolding station_cause row_at
 of_station s i = of_row s.kind i (row_at s i) (λ r e. late i r (row_at-refused s.kind s.magnetisation s.ambient i (station_at s i) s.vertices s.faces r e))
 
-pub of_stations : (s : SheetInput) → Of Late (first_of (station_count s) (stationCause s))
-of_stations s = of-first Late (station_count s) (stationCause s) (of_station s)
+pub of_stations : (s : SheetInput) → Of Late (first_of (station_count s) (station_cause s))
+of_stations s = of_first Late (station_count s) (station_cause s) (of_station s)

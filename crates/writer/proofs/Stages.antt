@@ -30,14 +30,14 @@ use Rattle.mesh.specs.declared.Solid.{Solid}
 use Rattle.mesh_check.specs.CheckedMates.{mates_after}
 use Rattle.sheet_layout.specs.LittleEndian.{pack}
 use Rattle.sheet_layout.proofs.Lists.{pack-length}
-use Rattle.sheet_layout.proofs.Stores.{sets-all}
+use Rattle.sheet_layout.proofs.Stores.{sets_all}
 use Rattle.prism.specs.Prism.{sides_within_limits}
 use Rattle.sheet_rows.specs.Kinds.{is_mesh, within_counts}
 use Rattle.sheet.specs.Input.{SheetInput, vertex_count, face_count, station_count}
-use Rattle.sheet.specs.Bytes.{volume, sheetLength, sheetBytes}
-use Rattle.sheet.specs.Writer.{malformed, too_many, too_short, out_of_limits, no_such_vertex, tooThin, bodyCause, stationCause, writerCause, zeroes_out, outAfter}
+use Rattle.sheet.specs.Bytes.{volume, sheet_size, sheet_bytes}
+use Rattle.sheet.specs.Writer.{malformed, too_many, too_short, out_of_limits, no_such_vertex, too_thin, body_cause, station_cause, writer_cause, zeroes_out, out_after}
 use Rattle.sheet.specs.Promises.{Typed, Kept}
-use Rattle.sheet_laws.specs.WriterLaws.{none-malformed, none-many, none-short, not-mesh, body_of, no_cause, cause-none}
+use Rattle.sheet_laws.specs.WriterLaws.{none-malformed, none-many, none_short, not-mesh, body_of, no_cause, cause-none}
 use Rattle.sheet_laws.specs.Demand3.{kept, sheet_length}
 use Rattle.sheet_laws.specs.OrderAndMates.{mates-length}
 use Rattle.writer_causes.specs.LengthsCause.{well_formed, lengths_cause}
@@ -49,60 +49,60 @@ use Rattle.writer.specs.declared.Written.TheVariants.{Bytes}
 use Rattle.writer.specs.declared.Written as written
 use Rattle.writer.specs.Written.{written_answer, write_sheet, Writes}
 use Rattle.writer.specs.Steps.{late_cause, Leaves}
-use Rattle.writer.proofs.Refusals.{Of, Early, LeavesOut, Late, of_refused, of-else, of-unless, of_limits, of_vertex, of_order, of_stations}
+use Rattle.writer.proofs.Refusals.{Of, Early, LeavesOut, Late, of_refused, of_else, of_unless, of_limits, of_vertex, of_order, of_stations}
 
 -- ---- what the refusals leave
 
 module _ (s : SheetInput) where
-  thin-out : Of LeavesOut (tooThin s)
-  unfolding tooThin
-  thin-out = of-unless LeavesOut (sides_within_limits (vertex s.vertices 0) (vertex s.vertices 1)) TooThin refl
+  thin_out : Of LeavesOut (too_thin s)
+  unfolding too_thin
+  thin_out = of_unless LeavesOut (sides_within_limits (vertex s.vertices 0) (vertex s.vertices 1)) TooThin refl
 
-  body-out : (b : Bool) → Of LeavesOut (cond b (order_cause s.vertices s.faces (order_list s.faces)) (tooThin s))
+  body-out : (b : Bool) → Of LeavesOut (cond b (order_cause s.vertices s.faces (order_list s.faces)) (too_thin s))
   body-out true = of_order s.vertices s.faces (order_list s.faces)
-  body-out false = thin-out
+  body-out false = thin_out
 
   solid-out : Of LeavesOut (check_body_cause s)
-  unfolding no_such_vertex bodyCause
-  solid-out = of-else LeavesOut (no_such_vertex s) (bodyCause s) (of_vertex (vertex_count s) s.faces) (body-out (is_mesh s.kind))
+  unfolding no_such_vertex body_cause
+  solid-out = of_else LeavesOut (no_such_vertex s) (body_cause s) (of_vertex (vertex_count s) s.faces) (body-out (is_mesh s.kind))
 
-  pub count-early : (w o : ℕ) → Of Early (lengths_cause s w o)
+  pub count_early : (w o : ℕ) → Of Early (lengths_cause s w o)
   unfolding malformed too_many too_short leaves_work
-  count-early w o =
-      of-else Early (malformed s) (or_else (too_many s) (too_short s w o)) (of-unless Early (well_formed s.kind (length s.vertices) (length s.faces) (length s.stations)) Malformed (refl, refl))
-      (of-else Early (too_many s) (too_short s w o) (of-unless Early (within_counts (vertex_count s) (face_count s) (station_count s)) TooMany (refl, refl)) (of-unless Early (leb (length s.faces) w && leb (sheetLength s) o) TooShort (refl, refl)))
+  count_early w o =
+      of_else Early (malformed s) (or_else (too_many s) (too_short s w o)) (of_unless Early (well_formed s.kind (length s.vertices) (length s.faces) (length s.stations)) Malformed (refl, refl))
+      (of_else Early (too_many s) (too_short s w o) (of_unless Early (within_counts (vertex_count s) (face_count s) (station_count s)) TooMany (refl, refl)) (of_unless Early (leb (length s.faces) w && leb (sheet_size s) o) TooShort (refl, refl)))
 
-  pub limits-early : Of Early (out_of_limits s)
+  pub limits_early : Of Early (out_of_limits s)
   unfolding out_of_limits leaves_work
-  limits-early =
+  limits_early =
       let fields = vector_within_limits s.magnetisation && vector_within_limits s.ambient in
-      of-else Early (mesh.out_of_limits s.vertices) (or_else (unless fields OutOfLimits) (mesh.out_of_limits s.stations)) (of_limits s.vertices)
-      (of-else Early (unless fields OutOfLimits) (mesh.out_of_limits s.stations) (of-unless Early fields OutOfLimits (refl, refl)) (of_limits s.stations))
+      of_else Early (mesh.out_of_limits s.vertices) (or_else (unless fields OutOfLimits) (mesh.out_of_limits s.stations)) (of_limits s.vertices)
+      (of_else Early (unless fields OutOfLimits) (mesh.out_of_limits s.stations) (of_unless Early fields OutOfLimits (refl, refl)) (of_limits s.stations))
 
   -- out is as it was
-  out-left : (r : Refusal) (o : List ℕ) → zeroes_out r ≡ false → outAfter s (Refused r) o ≡ o
-  unfolding outAfter
-  out-left r o e = ap (λ (b : Bool). cond b (replicate (sheetLength s) 0 ++ drop (sheetLength s) o) o) e
+  out-left : (r : Refusal) (o : List ℕ) → zeroes_out r ≡ false → out_after s (Refused r) o ≡ o
+  unfolding out_after
+  out-left r o e = ap (λ (b : Bool). cond b (replicate (sheet_size s) 0 ++ drop (sheet_size s) o) o) e
 
   -- both are as they were
   pub untouched : (c : Cause) (r : Refusal) (w o : List ℕ) → c ≡ Refused r → Early r → Leaves s c w o (written.TheVariants.Refused r) w o
   unfolding work_after
   untouched c r w o e h = record {
-    answer = sym (ap (λ (d : Cause). or_answer d (value (sheetLength s))) e);
+    answer = sym (ap (λ (d : Cause). or_answer d (value (sheet_size s))) e);
     work = sym (ap (λ (d : Cause). work_after d s.faces w) e ∙ ap (λ (b : Bool). cond b w (order_list s.faces ++ drop (length s.faces) w)) h.0);
-    out = sym (ap (λ (d : Cause). outAfter s d o) e ∙ out-left r o h.1);
+    out = sym (ap (λ (d : Cause). out_after s d o) e ∙ out-left r o h.1);
   }
 
   -- the sheet or zeros stand in front of out, and work holds the order list
-  late-out : (c : Cause) → Of Late c → (o : List ℕ) → sheet_or_zeros s c ++ drop (sheetLength s) o ≡ outAfter s c o
-  unfolding sheet_or_zeros outAfter
-  late-out None h o = refl
-  late-out (Refused r) h o = sym (ap (λ (b : Bool). cond b (replicate (sheetLength s) 0 ++ drop (sheetLength s) o) o) h.1)
+  late_out : (c : Cause) → Of Late c → (o : List ℕ) → sheet_or_zeros s c ++ drop (sheet_size s) o ≡ out_after s c o
+  unfolding sheet_or_zeros out_after
+  late_out None h o = refl
+  late_out (Refused r) h o = sym (ap (λ (b : Bool). cond b (replicate (sheet_size s) 0 ++ drop (sheet_size s) o) o) h.1)
 
-  late-work : (c : Cause) → Of Late c → (w : List ℕ) → work_after None s.faces w ≡ work_after c s.faces w
+  late_work : (c : Cause) → Of Late c → (w : List ℕ) → work_after None s.faces w ≡ work_after c s.faces w
   unfolding work_after
-  late-work None h w = refl
-  late-work (Refused r) h w = sym (ap (λ (b : Bool). cond b w (order_list s.faces ++ drop (length s.faces) w)) h.0)
+  late_work None h w = refl
+  late_work (Refused r) h w = sym (ap (λ (b : Bool). cond b w (order_list s.faces ++ drop (length s.faces) w)) h.0)
 
   order-front : (w : List ℕ) → take (length s.faces) (work_after None s.faces w) ≡ order_list s.faces
   unfolding work_after
@@ -144,8 +144,8 @@ module _ (s : SheetInput) (w o : List ℕ) (ok : lengths_cause s (length w) (len
   rest : (too_many s ≡ None) × (too_short s (length w) (length o) ≡ None)
   rest = both (too_many s) (too_short s (length w) (length o)) (both (malformed s) (or_else (too_many s) (too_short s (length w) (length o))) ok).1
 
-  pub room : (length s.faces ≤ length w) × (sheetLength s ≤ length o)
-  room = none-short s (length w) (length o) rest.1
+  pub room : (length s.faces ≤ length w) × (sheet_size s ≤ length o)
+  room = none_short s (length w) (length o) rest.1
 
   pub few : (vertex_count s ≤ max_vertices) × (face_count s ≤ max_faces) × (station_count s ≤ max_stations)
   few = let n = none-many s rest.0 in (n.0, n.1.0, n.1.1)
@@ -168,7 +168,7 @@ module _ (s : SheetInput) (w o : List ℕ) (ok : lengths_cause s (length w) (len
   abbrev pub back : List ℕ → List ℕ
   back y = put_mid at (end - at) o y
 
-  mates-fit : end ≤ sheetLength s
+  mates-fit : end ≤ sheet_size s
   mates-fit = let m = none-malformed s is_well_formed in omega (arith, m.0, m.1.0)
 
   pub mates-within : end ≤ length o
@@ -190,11 +190,11 @@ module _ (s : SheetInput) (w o : List ℕ) (ok : lengths_cause s (length w) (len
     unfolding mates_after
     body_refused q e =
         let f = solid-refused (check_body_cause s) (volume s) q (sym h.answer ∙ e) in
-        let g = ap (λ (d : Cause). or_else d (first_of (station_count s) (stationCause s))) f in
+        let g = ap (λ (d : Cause). or_else d (first_of (station_count s) (station_cause s))) f in
         record {
-          answer = sym (ap (λ (d : Cause). or_answer d (value (sheetLength s))) g);
+          answer = sym (ap (λ (d : Cause). or_answer d (value (sheet_size s))) g);
           work = h.work ∙ ap (λ (d : Cause). work_after d s.faces w) (f ∙ sym g);
-          out = ap back (h.mates ∙ ap (λ (d : Cause). mates_after d s.faces lent) f) ∙ put_same at (end - at) o ∙ sym (ap (λ (d : Cause). outAfter s d o) g ∙ out-left s q o (of_refused LeavesOut (check_body_cause s) q (solid-out s) f));
+          out = ap back (h.mates ∙ ap (λ (d : Cause). mates_after d s.faces lent) f) ∙ put_same at (end - at) o ∙ sym (ap (λ (d : Cause). out_after s d o) g ∙ out-left s q o (of_refused LeavesOut (check_body_cause s) q (solid-out s) f));
         }
 
     -- it is not
@@ -214,7 +214,7 @@ module _ (s : SheetInput) (w o : List ℕ) (ok : lengths_cause s (length w) (len
       -- the bytes are the mates
       mated : y ≡ pack 4 (mates s.faces)
       unfolding mates_after
-      mated = h.mates ∙ ap (λ (d : Cause). mates_after d s.faces lent) solid.0 ∙ sets-all lent (pack 4 (mates s.faces)) (mates-bytes ∙ sym lent-size)
+      mated = h.mates ∙ ap (λ (d : Cause). mates_after d s.faces lent) solid.0 ∙ sets_all lent (pack 4 (mates s.faces)) (mates-bytes ∙ sym lent-size)
 
       mated-size : length y ≡ 4 * length s.faces
       mated-size = ap length mated ∙ mates-bytes
@@ -222,13 +222,13 @@ module _ (s : SheetInput) (w o : List ℕ) (ok : lengths_cause s (length w) (len
       pub back-size : length (back y) ≡ length o
       back-size = same_len_mid at (end - at) o y (mated-size ∙ sym lent-size)
 
-      pub stand : (n : ℕ) → n ≡ sheetLength s → MatesStand (length s.vertices) s.faces (take n (back y))
+      pub stand : (n : ℕ) → n ≡ sheet_size s → MatesStand (length s.vertices) s.faces (take n (back y))
       stand n z = put-stands at end n (4 * length s.faces) o y (omega arith) (omega (arith, mates-fit)) mates-within mated-size ∙ mated
 
-      pub prepared : (n : ℕ) → n ≡ sheetLength s → Prepared s (take (length s.faces) p) x n
+      pub prepared : (n : ℕ) → n ≡ sheet_size s → Prepared s (take (length s.faces) p) x n
       prepared n z =
           let m = none-malformed s is_well_formed in
-          let body = body_of s is_well_formed rest.0 (both (no_such_vertex s) (bodyCause s) solid.0).0 in
+          let body = body_of s is_well_formed rest.0 (both (no_such_vertex s) (body_cause s) solid.0).0 in
           record {
             coordinates = m.0;
             triples = m.1.1.0;
@@ -242,14 +242,14 @@ module _ (s : SheetInput) (w o : List ℕ) (ok : lengths_cause s (length w) (len
             room = z;
           }
 
-      pub put : (c : Cause) (n : ℕ) {a : Written} {q : List ℕ} → n ≡ sheetLength s → SheetPut s c q → written_answer a ≡ or_answer c (value n) → Leaves s (late_cause s) w o a p (q ++ drop n (back y))
+      pub put : (c : Cause) (n : ℕ) {a : Written} {q : List ℕ} → n ≡ sheet_size s → SheetPut s c q → written_answer a ≡ or_answer c (value n) → Leaves s (late_cause s) w o a p (q ++ drop n (back y))
       put c n {q = q} z g a =
-          let stations = first_of (station_count s) (stationCause s) in
+          let stations = first_of (station_count s) (station_cause s) in
           let f : late_cause s ≡ stations = ap (λ (d : Cause). or_else d stations) solid.0 in
           record {
             answer = a ∙ ap₂ (λ (d : Cause) (k : ℕ). or_answer d (value k)) (g.cause ∙ sym f) z;
-            work = held ∙ late-work s stations (of_stations s) w ∙ ap (λ (d : Cause). work_after d s.faces w) (sym f);
-            out = ap (λ (x : List ℕ). q ++ x) (put_leaves at end n o y (omega arith) (omega (arith, mates-fit)) mates-within (mated-size ∙ omega arith)) ∙ ap₂ (λ (x : List ℕ) (k : ℕ). x ++ drop k o) (g.bytes ∙ ap (sheet_or_zeros s) g.cause) z ∙ late-out s stations (of_stations s) o ∙ ap (λ (d : Cause). outAfter s d o) (sym f);
+            work = held ∙ late_work s stations (of_stations s) w ∙ ap (λ (d : Cause). work_after d s.faces w) (sym f);
+            out = ap (λ (x : List ℕ). q ++ x) (put_leaves at end n o y (omega arith) (omega (arith, mates-fit)) mates-within (mated-size ∙ omega arith)) ∙ ap₂ (λ (x : List ℕ) (k : ℕ). x ++ drop k o) (g.bytes ∙ ap (sheet_or_zeros s) g.cause) z ∙ late_out s stations (of_stations s) o ∙ ap (λ (d : Cause). out_after s d o) (sym f);
           }
 
 -- a cause is an equal one
@@ -264,13 +264,13 @@ assoc (Refused r) d e = refl
 
 module _ (s : SheetInput) (w o : ℕ) where
   -- in the steps of the code
-  in-steps : writerCause s w o ≡ or_else (lengths_cause s w o) (or_else (out_of_limits s) (late_cause s))
-  unfolding writerCause
-  in-steps =
-      let stations = first_of (station_count s) (stationCause s) in
+  in_steps : writer_cause s w o ≡ or_else (lengths_cause s w o) (or_else (out_of_limits s) (late_cause s))
+  unfolding writer_cause
+  in_steps =
+      let stations = first_of (station_count s) (station_cause s) in
       sym (assoc (malformed s) (or_else (too_many s) (too_short s w o)) (or_else (out_of_limits s) (late_cause s))
       ∙ ap (or_else (malformed s)) (assoc (too_many s) (too_short s w o) (or_else (out_of_limits s) (late_cause s)))
-      ∙ ap (λ (c : Cause). or_else (malformed s) (or_else (too_many s) (or_else (too_short s w o) (or_else (out_of_limits s) c)))) (assoc (no_such_vertex s) (bodyCause s) stations))
+      ∙ ap (λ (c : Cause). or_else (malformed s) (or_else (too_many s) (or_else (too_short s w o) (or_else (out_of_limits s) c)))) (assoc (no_such_vertex s) (body_cause s) stations))
 
 -- ---- demand 3
 
@@ -282,16 +282,16 @@ is-bytes : (r : Written) (n : ℕ) → written_answer r ≡ value n → r ≡ By
 is-bytes (Bytes m) n e = ap Bytes (cc)
 is-bytes (written.TheVariants.Refused q) n e = absurd (let z : ◌≡◌ {A = ℕ} 0 1 = cc in omega arith)
 
-module _ (s : SheetInput) (ty : Typed s) (w o : List ℕ) {r : Written} {p q : List ℕ} (h : Leaves s (writerCause s (length w) (length o)) w o r p q) where
-  none : (n : ℕ) → r ≡ Bytes n → writerCause s (length w) (length o) ≡ None
-  none n e = no_refusal (writerCause s (length w) (length o)) (sheetLength s) n (sym h.answer ∙ ap written_answer e)
+module _ (s : SheetInput) (ty : Typed s) (w o : List ℕ) {r : Written} {p q : List ℕ} (h : Leaves s (writer_cause s (length w) (length o)) w o r p q) where
+  none : (n : ℕ) → r ≡ Bytes n → writer_cause s (length w) (length o) ≡ None
+  none n e = no_refusal (writer_cause s (length w) (length o)) (sheet_size s) n (sym h.answer ∙ ap written_answer e)
 
-  is-kept : (n : ℕ) → r ≡ Bytes n → Kept s (take (sheetLength s) q)
-  unfolding outAfter
+  is-kept : (n : ℕ) → r ≡ Bytes n → Kept s (take (sheet_size s) q)
+  unfolding out_after
   is-kept n e =
       let z = none n e in
-      let front : q ≡ sheetBytes s ++ drop (sheetLength s) o = h.out ∙ ap (λ (c : Cause). outAfter s c o) z in
-      subst (Kept s) (sym (ap (take (sheetLength s)) front ∙ take_at (sheetBytes s) (drop (sheetLength s) o) (sheetLength s) (sheet_length s (length w) (length o) ty z)))
+      let front : q ≡ sheet_bytes s ++ drop (sheet_size s) o = h.out ∙ ap (λ (c : Cause). out_after s c o) z in
+      subst (Kept s) (sym (ap (take (sheet_size s)) front ∙ take_at (sheet_bytes s) (drop (sheet_size s) o) (sheet_size s) (sheet_length s (length w) (length o) ty z)))
       (kept s (length w) (length o) ty z)
 
   -- what the equations promise of a written sheet
@@ -303,26 +303,26 @@ module _ (s : SheetInput) (ty : Typed s) (w o : List ℕ) {r : Written} {p q : L
     out = h.out;
     kept = is-kept;
     only = λ n e. no_cause s (length w) (length o) (none n e);
-    always = λ k. is-bytes r (sheetLength s) (h.answer ∙ ap (λ (c : Cause). or_answer c (value (sheetLength s))) (cause-none s (length w) (length o) k));
+    always = λ k. is-bytes r (sheet_size s) (h.answer ∙ ap (λ (c : Cause). or_answer c (value (sheet_size s))) (cause-none s (length w) (length o) k));
   }
 
 -- ---- the returns of `write_sheet`
 
 module _ (s : SheetInput) (ty : Typed s) (w o : List ℕ) where
-  counts-first : (c : Cause) → lengths_cause s (length w) (length o) ≡ c → writerCause s (length w) (length o) ≡ or_else c (or_else (out_of_limits s) (late_cause s))
-  counts-first c p = in-steps s (length w) (length o) ∙ ap (λ (d : Cause). or_else d (or_else (out_of_limits s) (late_cause s))) p
+  counts_first : (c : Cause) → lengths_cause s (length w) (length o) ≡ c → writer_cause s (length w) (length o) ≡ or_else c (or_else (out_of_limits s) (late_cause s))
+  counts_first c p = in_steps s (length w) (length o) ∙ ap (λ (d : Cause). or_else d (or_else (out_of_limits s) (late_cause s))) p
 
-  then-limits : (c : Cause) → lengths_cause s (length w) (length o) ≡ None → out_of_limits s ≡ c → writerCause s (length w) (length o) ≡ or_else c (late_cause s)
-  then-limits c p e = counts-first None p ∙ ap (λ (d : Cause). or_else d (late_cause s)) e
+  then_limits : (c : Cause) → lengths_cause s (length w) (length o) ≡ None → out_of_limits s ≡ c → writer_cause s (length w) (length o) ≡ or_else c (late_cause s)
+  then_limits c p e = counts_first None p ∙ ap (λ (d : Cause). or_else d (late_cause s)) e
 
-  pub by-counts : (r : Refusal) → lengths_cause s (length w) (length o) ≡ Refused r → Writes s w o (written.TheVariants.Refused r) w o
-  by-counts r e =
+  pub by_counts : (r : Refusal) → lengths_cause s (length w) (length o) ≡ Refused r → Writes s w o (written.TheVariants.Refused r) w o
+  by_counts r e =
       writes s ty w o
-      (untouched s (writerCause s (length w) (length o)) r w o (counts-first (Refused r) e) (of_refused Early (lengths_cause s (length w) (length o)) r (count-early s (length w) (length o)) e))
+      (untouched s (writer_cause s (length w) (length o)) r w o (counts_first (Refused r) e) (of_refused Early (lengths_cause s (length w) (length o)) r (count_early s (length w) (length o)) e))
 
-  pub by-limits : (r : Refusal) → lengths_cause s (length w) (length o) ≡ None → out_of_limits s ≡ Refused r → Writes s w o (written.TheVariants.Refused r) w o
-  by-limits r p e =
-      writes s ty w o (untouched s (writerCause s (length w) (length o)) r w o (then-limits (Refused r) p e) (of_refused Early (out_of_limits s) r (limits-early s) e))
+  pub by_limits : (r : Refusal) → lengths_cause s (length w) (length o) ≡ None → out_of_limits s ≡ Refused r → Writes s w o (written.TheVariants.Refused r) w o
+  by_limits r p e =
+      writes s ty w o (untouched s (writer_cause s (length w) (length o)) r w o (then_limits (Refused r) p e) (of_refused Early (out_of_limits s) r (limits_early s) e))
 
   pub later : {r : Written} {p q : List ℕ} → lengths_cause s (length w) (length o) ≡ None → out_of_limits s ≡ None → Leaves s (late_cause s) w o r p q → Writes s w o r p q
-  later n e h = writes s ty w o (leaves_same (then-limits None n e) h)
+  later n e h = writes s ty w o (leaves_same (then_limits None n e) h)

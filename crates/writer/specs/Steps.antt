@@ -5,21 +5,21 @@ use Rattle.refusals.specs.Causes.{or_else, first_of}
 use Rattle.refusals.specs.declared.Cause.{Cause}
 use Rattle.mesh.specs.Check.{work_after}
 use Rattle.sheet.specs.Input.{SheetInput, station_count}
-use Rattle.sheet.specs.Bytes.{sheetLength}
-use Rattle.sheet.specs.Writer.{stationCause, outAfter}
+use Rattle.sheet.specs.Bytes.{sheet_size}
+use Rattle.sheet.specs.Writer.{station_cause, out_after}
 use Rattle.sheet_body.specs.BodyChecked.{check_body_cause}
 use Rattle.writer.specs.declared.Written.{Written}
 use Rattle.writer.specs.Written.{written_answer}
 
 -- the body's causes, and by station 10 or 11, 13
 abbrev pub late_cause : SheetInput → Cause
-late_cause s = or_else (check_body_cause s) (first_of (station_count s) (stationCause s))
+late_cause s = or_else (check_body_cause s) (first_of (station_count s) (station_cause s))
 
 -- the equations of `Writes`, for the first cause c that was found: the answer is r, work w has become p, out o has become q
 pub record Leaves (s : SheetInput) (c : Cause) (w o : List ℕ) (r : Written) (p q : List ℕ) : Type 0 where
-  pub answer : written_answer r ≡ or_answer c (value (sheetLength s))
+  pub answer : written_answer r ≡ or_answer c (value (sheet_size s))
   pub work : p ≡ work_after c s.faces w
-  pub out : q ≡ outAfter s c o
+  pub out : q ≡ out_after s c o
 
 -- and for the causes from 4 on
 abbrev pub LeavesLate : SheetInput → List ℕ → List ℕ → Written → List ℕ → List ℕ → Type 0

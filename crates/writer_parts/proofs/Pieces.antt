@@ -16,7 +16,7 @@ use Rattle.mesh_orders.specs.OrderLaws.{order-length}
 use Rattle.mesh_orders.specs.Mates.{mates}
 use Rattle.sheet_layout.specs.LittleEndian.{bytes, pack, bits}
 use Rattle.sheet_layout.specs.Parts.{Part, joined, layout, size}
-use Rattle.sheet_layout.proofs.Stores.{sets-all}
+use Rattle.sheet_layout.proofs.Stores.{sets_all}
 use Rattle.sheet_layout.proofs.Lists.{pack_one, pack-append, pack-length}
 use Rattle.sheet_layout.proofs.Files.{then_part}
 use Rattle.sheet.specs.Bytes.{trailer_length}
@@ -74,8 +74,8 @@ module _ (kind v f n : ℕ) (m b : Vector) (x : Float) (at : ℕ) where
   numbers = vector_numbers m ++ (vector_numbers b ++ (x ∷ []))
 
   -- the two vectors and the volume are written as one run of doubles
-  one-run : joined ((4, kind ∷ v ∷ f ∷ n ∷ []) ∷ (8, bits numbers) ∷ (8, at ∷ []) ∷ []) ≡ joined (trailer_parts kind v f n m b x at)
-  one-run =
+  one_run : joined ((4, kind ∷ v ∷ f ∷ n ∷ []) ∷ (8, bits numbers) ∷ (8, at ∷ []) ∷ []) ≡ joined (trailer_parts kind v f n m b x at)
+  one_run =
       let A = pack 8 (bits (vector_numbers m)) in
       let B = pack 8 (bits (vector_numbers b)) in
       let X = pack 8 (bits (x ∷ [])) in
@@ -91,14 +91,14 @@ module _ (kind v f n : ℕ) (m b : Vector) (x : Float) (at : ℕ) where
       let p₁ = then_part l at [] 4 (kind ∷ v ∷ f ∷ n ∷ []) at refl e₁ (omega arith) in
       let p₂ = then_part l at (counts ∷ []) 8 (bits numbers) (at + 16) p₁ e₂ (omega arith) in
       then_part l at (counts ∷ (8, bits numbers) ∷ []) 8 (at ∷ []) (at + 72) p₂ (e₃ ∙ ap (λ (y : List ℕ). sets o₂ (at + 72) y) (sym (pack_one 8 at))) (omega arith)
-      ∙ ap (sets l at) one-run
+      ∙ ap (sets l at) one_run
 
 -- ---- after the rows
 
 module _ {cause : Cause} (trailer : List Part) (o : List ℕ) {q : List ℕ} where
   pub zeroed : {r : Refusal} → cause ≡ Refused r → q ≡ sets o 0 (replicate (length o) 0) → q ≡ finished cause trailer o
   unfolding finished
-  zeroed e h = h ∙ sets-all o (replicate (length o) 0) (length-replicate {A = ℕ} (length o) 0) ∙ sym (ap (λ (d : Cause). finished d trailer o) e)
+  zeroed e h = h ∙ sets_all o (replicate (length o) 0) (length-replicate {A = ℕ} (length o) 0) ∙ sym (ap (λ (d : Cause). finished d trailer o) e)
 
   pub ended : cause ≡ None → q ≡ sets o (length o - trailer_length) (joined trailer) → q ≡ finished cause trailer o
   unfolding finished

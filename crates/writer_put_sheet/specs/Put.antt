@@ -8,8 +8,8 @@ use Rattle.mesh_orders.specs.Order.{order_list}
 use Rattle.mesh.specs.Surface.{Body}
 use Rattle.sheet_rows.specs.Kinds.{is_mesh}
 use Rattle.sheet.specs.Input.{SheetInput, vertex_count, station_count}
-use Rattle.sheet.specs.Bytes.{volume, sheetLength, sheetBytes}
-use Rattle.sheet.specs.Writer.{stationCause}
+use Rattle.sheet.specs.Bytes.{volume, sheet_size, sheet_bytes}
+use Rattle.sheet.specs.Writer.{station_cause}
 
 -- a body that was checked, with its order list o and volume x, for a sheet of n bytes
 pub record Prepared (s : SheetInput) (o : List ℕ) (x : Float) (n : ℕ) : Type 0 where
@@ -22,14 +22,14 @@ pub record Prepared (s : SheetInput) (o : List ℕ) (x : Float) (n : ℕ) : Type
   pub corners : is_mesh s.kind ≡ false → 6 ≤ length s.vertices
   pub order : o ≡ order_list s.faces
   pub measured : x ≡ volume s
-  pub room : n ≡ sheetLength s
+  pub room : n ≡ sheet_size s
 
 -- the sheet, or zeros after a refusal
 unfoldable pub sheet_or_zeros : SheetInput → Cause → List ℕ
-sheet_or_zeros s None = sheetBytes s
-sheet_or_zeros s (Refused r) = replicate (sheetLength s) 0
+sheet_or_zeros s None = sheet_bytes s
+sheet_or_zeros s (Refused r) = replicate (sheet_size s) 0
 
 -- the cause r that it gives, and the bytes, which become p
 pub record SheetPut (s : SheetInput) (r : Cause) (p : List ℕ) : Type 0 where
-  pub cause : r ≡ first_of (station_count s) (stationCause s)
+  pub cause : r ≡ first_of (station_count s) (station_cause s)
   pub bytes : p ≡ sheet_or_zeros s r

@@ -29,7 +29,7 @@ use Rattle.sheet_rows.proofs.RowMade.{row_made}
 use Rattle.sheet_rows.specs.declared.Row.{Row}
 use Rattle.sheet.specs.Input.{SheetInput, input_of, station_count, row_at}
 use Rattle.sheet.specs.Bytes.{numbers_of, rows}
-use Rattle.sheet.specs.Writer.{stationCause}
+use Rattle.sheet.specs.Writer.{station_cause}
 use Rattle.sheet_laws.specs.Reading.{rows-length}
 use Rattle.writer_rows.specs.Rows.{RowPut, count_before, RowsPut}
 
@@ -44,12 +44,12 @@ row_is kind i m b v f st q e = row_made kind i m b (vertex st i) v f q e
 
 module _ (s : SheetInput) (i : ℕ) where
   -- the station's cause, of a field that was given or refused
-  pub of_row : (row : Row) (b : Bool) → value row ≡ row_at s i → is_finite_row s.kind row ≡ b → unless b (NotFinite i) ≡ stationCause s i
-  unfolding stationCause row_cause
+  pub of_row : (row : Row) (b : Bool) → value row ≡ row_at s i → is_finite_row s.kind row ≡ b → unless b (NotFinite i) ≡ station_cause s i
+  unfolding station_cause row_cause
   of_row row b e f = rw (← e, f)
 
-  pub of_refused : (r : Refusal) → refused r ≡ row_at s i → Refused r ≡ stationCause s i
-  unfolding stationCause row_cause
+  pub of_refused : (r : Refusal) → refused r ≡ row_at s i → Refused r ≡ station_cause s i
+  unfolding station_cause row_cause
   of_refused r e = rw (← e)
 
   numbers-length : (a : Answer Row) → row_cause s.kind i a ≡ None → length (numbers_of s a) ≡ row_width s.kind
@@ -57,16 +57,16 @@ module _ (s : SheetInput) (i : ℕ) where
   numbers-length (value row) e = refl
   numbers-length (refused r) e = absurd (not_none r e)
 
-  pub row-length : stationCause s i ≡ None → length (numbers_of s (row_at s i)) ≡ row_width s.kind
-  unfolding stationCause
+  pub row-length : station_cause s i ≡ None → length (numbers_of s (row_at s i)) ≡ row_width s.kind
+  unfolding station_cause
   row-length e = numbers-length (row_at s i) e
 
-module _ (s : SheetInput) (k : ℕ) (none : first_of k (stationCause s) ≡ None) where
-  pub numbers-so-far : length (rows s k) ≡ row_width s.kind * k
-  numbers-so-far = rows-length s (row_width s.kind) k (λ i l. row-length s i (each k (stationCause s) none i l))
+module _ (s : SheetInput) (k : ℕ) (none : first_of k (station_cause s) ≡ None) where
+  pub numbers_so_far : length (rows s k) ≡ row_width s.kind * k
+  numbers_so_far = rows-length s (row_width s.kind) k (λ i l. row-length s i (each k (station_cause s) none i l))
 
-  bytes-so-far : length (pack 8 (bits (rows s k))) ≡ 8 * row_width s.kind * k
-  bytes-so-far = let n = length-map (rows s k) (to_bits binary64) ∙ numbers-so-far in pack-length 8 (bits (rows s k)) ∙ omega (arith, n)
+  bytes_so_far : length (pack 8 (bits (rows s k))) ≡ 8 * row_width s.kind * k
+  bytes_so_far = let n = length-map (rows s k) (to_bits binary64) ∙ numbers_so_far in pack-length 8 (bits (rows s k)) ∙ omega (arith, n)
 
   -- one more row, right after the others
   pub next : (l : List ℕ) (at p : ℕ) {o q : List ℕ} → p ≡ at + 8 * row_width s.kind * k → o ≡ sets l at (pack 8 (bits (rows s k)))
@@ -75,7 +75,7 @@ module _ (s : SheetInput) (k : ℕ) (none : first_of k (stationCause s) ≡ None
   next l at p h e f =
       let row = numbers_of s (row_at s k) in
       f ∙ ap (λ (x : List ℕ). sets x p (pack 8 (bits row))) e
-      ∙ sets_then l at p (pack 8 (bits (rows s k))) (pack 8 (bits row)) (h ∙ ap (λ (n : ℕ). at + n) (sym bytes-so-far))
+      ∙ sets_then l at p (pack 8 (bits (rows s k))) (pack 8 (bits row)) (h ∙ ap (λ (n : ℕ). at + n) (sym bytes_so_far))
       ∙ ap (sets l at)
       (sym (ap (λ (n : ℕ). pack 8 (bits (rows s n))) (add-one k) ∙ ap (pack 8) (map-append (to_bits binary64) (rows s k) row) ∙ pack-append 8 (bits (rows s k)) (bits row)))
 
@@ -106,19 +106,19 @@ module _ (s : SheetInput) (i at : ℕ) {c : Cause} {o p : List ℕ} (h : RowPut 
 -- where none is refused, all rows are written
 pub none-refused : (s : SheetInput) (at : ℕ) {r : Cause} {o p : List ℕ} → RowsPut s at r o p → r ≡ None → p ≡ sets o at (pack 8 (bits (rows s (station_count s))))
 none-refused s at {o = o} h e =
-    h.bytes ∙ ap (λ (n : ℕ). sets o at (pack 8 (bits (rows s n)))) (count-all (station_count s) (stationCause s) (sym h.cause ∙ e))
+    h.bytes ∙ ap (λ (n : ℕ). sets o at (pack 8 (bits (rows s n)))) (count-all (station_count s) (station_cause s) (sym h.cause ∙ e))
 
 -- station i is refused, and the rows before it are written
-pub up_to-refused : (s : SheetInput) (l : List ℕ) (at i : ℕ) (r : Refusal) {o : List ℕ} → i < station_count s → first_of i (stationCause s) ≡ None
-    → stationCause s i ≡ Refused r → o ≡ sets l at (pack 8 (bits (rows s i))) → RowsPut s at (Refused r) l o
+pub up_to-refused : (s : SheetInput) (l : List ℕ) (at i : ℕ) (r : Refusal) {o : List ℕ} → i < station_count s → first_of i (station_cause s) ≡ None
+    → station_cause s i ≡ Refused r → o ≡ sets l at (pack 8 (bits (rows s i))) → RowsPut s at (Refused r) l o
 up_to-refused s l at i r m p q e = record {
-  cause = sym (stop (station_count s) i (stationCause s) r m p q);
-  bytes = e ∙ ap (λ (n : ℕ). sets l at (pack 8 (bits (rows s n)))) (sym (count-first (station_count s) i (stationCause s) r m p q));
+  cause = sym (stop (station_count s) i (station_cause s) r m p q);
+  bytes = e ∙ ap (λ (n : ℕ). sets l at (pack 8 (bits (rows s n)))) (sym (count-first (station_count s) i (station_cause s) r m p q));
 }
 
 -- all rows are written
-pub all-rows : (s : SheetInput) (l : List ℕ) (at i : ℕ) {o : List ℕ} → i ≡ station_count s → first_of i (stationCause s) ≡ None → o ≡ sets l at (pack 8 (bits (rows s i)))
+pub all-rows : (s : SheetInput) (l : List ℕ) (at i : ℕ) {o : List ℕ} → i ≡ station_count s → first_of i (station_cause s) ≡ None → o ≡ sets l at (pack 8 (bits (rows s i)))
     → RowsPut s at None l o
 all-rows s l at i e p q =
-    let none = subst (λ (m : ℕ). first_of m (stationCause s) ≡ None) e p in
-    record { cause = sym none; bytes = q ∙ ap (λ (m : ℕ). sets l at (pack 8 (bits (rows s m)))) (e ∙ sym (count-all (station_count s) (stationCause s) none)) }
+    let none = subst (λ (m : ℕ). first_of m (station_cause s) ≡ None) e p in
+    record { cause = sym none; bytes = q ∙ ap (λ (m : ℕ). sets l at (pack 8 (bits (rows s m)))) (e ∙ sym (count-all (station_count s) (station_cause s) none)) }

@@ -13,11 +13,11 @@ use Rattle.sheet_rows.specs.Row.{field_at}
 use Rattle.sheet_layout.specs.LittleEndian.{pack, bits}
 use Rattle.sheet.specs.Input.{SheetInput, station_count, row_at}
 use Rattle.sheet.specs.Bytes.{numbers_of, rows}
-use Rattle.sheet.specs.Writer.{stationCause}
+use Rattle.sheet.specs.Writer.{station_cause}
 
 -- the row of station i at place at; after a refusal the bytes are as they were
 pub record RowPut (s : SheetInput) (i at : ℕ) (r : Cause) (o p : List ℕ) : Type 0 where
-  pub cause : r ≡ stationCause s i
+  pub cause : r ≡ station_cause s i
   pub bytes : p ≡ cause_or (λ q. o) r (sets o at (pack 8 (bits (numbers_of s (row_at s i)))))
 
 -- how many of the causes c 0, c 1, .., c (n - 1) come before the first that refuses: n where none does
@@ -27,8 +27,8 @@ count_before (suc n) c = cause_or (λ q. count_before n c) (first_of (suc n) c) 
 
 -- the rows from place at on, up to the first that is refused; the other bytes are as they were
 pub record RowsPut (s : SheetInput) (at : ℕ) (r : Cause) (o p : List ℕ) : Type 0 where
-  pub cause : r ≡ first_of (station_count s) (stationCause s)
-  pub bytes : p ≡ sets o at (pack 8 (bits (rows s (count_before (station_count s) (stationCause s)))))
+  pub cause : r ≡ first_of (station_count s) (station_cause s)
+  pub bytes : p ≡ sets o at (pack 8 (bits (rows s (count_before (station_count s) (station_cause s)))))
 
 -- ---- between two blocks of stations
 
@@ -38,7 +38,7 @@ pub record FieldsAt (kind first n : ℕ) (v : List Float) (f : List ℕ) (st : L
 
 -- the first k stations are not refused, and their rows stand from place at on
 pub record RowsUpTo (s : SheetInput) (at k : ℕ) (o p : List ℕ) : Type 0 where
-  pub none : first_of k (stationCause s) ≡ None
+  pub none : first_of k (station_cause s) ≡ None
   pub bytes : p ≡ sets o at (pack 8 (bits (rows s k)))
 
 -- what follows once the cause r of the stations up to k is known: their rows stand there, or the rows are done

@@ -3,7 +3,7 @@ use mathlib.Core.Path.{◌≡◌, sym, ap, ◌∙◌}
 use native.Mathlib.Omega.{arith}
 use borrow.Author.Rules.{rules}
 use Rattle.sheet_rows.specs.Kinds.{is_mesh}
-use Rattle.sheet.specs.Checker.{kindIn}
+use Rattle.sheet.specs.Checker.{kind_in}
 use Rattle.checker_body.proofs.Solid.{of_mesh, of_prism}
 use Rattle.checker_body.proofs.check_solid.Statement.{statement}
 use Rattle.checker_body.proofs.check_solid.Tie as tie
@@ -13,7 +13,7 @@ abbrev start : tie.After-is-mesh → tie.Start
 start c = c.before.before.before.before.before
 
 -- the test of the kind
-tested : (c : tie.After-is-mesh) → is_mesh (kindIn (start c).args.sheet.now) ≡ c.is-mesh.result
+tested : (c : tie.After-is-mesh) → is_mesh (kind_in (start c).args.sheet.now) ≡ c.is-mesh.result
 tested c = ap is_mesh (sym c.before.kind.ensures) ∙ sym c.is-mesh.ensures
 
 returns : tie.Need-returns

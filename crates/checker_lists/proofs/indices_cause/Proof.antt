@@ -5,10 +5,10 @@ use native.Mathlib.Omega.{arith}
 use lib.ListN.{length}
 use borrow.Author.Rules.{rules}
 use Rattle.sheet.specs.Writer.{no_such_vertex}
-use Rattle.sheet.specs.Checker.{facesIn, parse}
-use Rattle.sheet_laws.specs.Reading.{faces-length, order-in-length}
-use Rattle.checker_lists.specs.Stages.{indicesCause}
-use Rattle.checker_lists.proofs.Lists.{vertex-is, lists-are}
+use Rattle.sheet.specs.Checker.{faces_in, parse}
+use Rattle.sheet_laws.specs.Reading.{faces-length, order_in-length}
+use Rattle.checker_lists.specs.Stages.{indices_cause}
+use Rattle.checker_lists.proofs.Lists.{vertex-is, lists_are}
 use Rattle.checker_lists.proofs.indices_cause.Statement.{statement}
 use Rattle.checker_lists.proofs.indices_cause.Tie as tie
 
@@ -17,7 +17,7 @@ abbrev start : tie.After-faces → tie.Start
 start c = c.before.before.before.before.before.before
 
 -- three corners to a face
-corners : (c : tie.After-faces) → length (start c).args.faces.now ≡ 3 * facesIn (start c).args.sheet.now
+corners : (c : tie.After-faces) → length (start c).args.faces.now ≡ 3 * faces_in (start c).args.sheet.now
 corners c = ap length (start c).requires.faces ∙ faces-length (start c).args.sheet.now
 
 -- 4
@@ -27,7 +27,7 @@ missing c =
     sym (c.no-such-vertex.ensures ∙ vertex-is st.args.sheet.now _ st.pre.faces _ c.before.before.vertices.ensures)
 
 returns : tie.Need-returns
-unfolding indicesCause
+unfolding indices_cause
 returns c = rw (missing c.before.before.before ∙ c.before.missing.given.1)
 
 -- where 4 does not hold
@@ -39,7 +39,7 @@ wrong-lists-requires c κs =
     let f = (named c).before in
     let st = start f in
     let o = st.pre.opened in
-    let order = ap length st.pre.order ∙ order-in-length st.args.sheet.now in
+    let order = ap length st.pre.order ∙ order_in-length st.args.sheet.now in
     let n = corners f in
     record {
       triples = omega arith;
@@ -49,13 +49,13 @@ wrong-lists-requires c κs =
     }
 
 returns-2 : tie.Need-returns-2
-unfolding indicesCause
+unfolding indices_cause
 returns-2 c =
     let told = c.before in
     let f = (named told).before in
     let st = start f in
     rw (missing (named told) ∙ told.enum_told.given.1)
-    (c.wrong-lists.ensures ∙ lists-are st.args.sheet.now _ st.pre.faces _ st.pre.order (omega (arith, f.before.vertices.ensures, f.faces.ensures)))
+    (c.wrong-lists.ensures ∙ lists_are st.args.sheet.now _ st.pre.faces _ st.pre.order (omega (arith, f.before.vertices.ensures, f.faces.ensures)))
 
 pub indices-cause-spec : {M : Type 1} → statement M
 indices-cause-spec =

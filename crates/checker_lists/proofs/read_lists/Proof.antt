@@ -2,7 +2,7 @@
 use mathlib.Core.Path.{◌∙◌}
 use native.Mathlib.Omega.{arith}
 use borrow.Author.Rules.{rules}
-use Rattle.checker_lists.proofs.Lists.{vertices-loaded, faces-loaded, order-loaded}
+use Rattle.checker_lists.proofs.Lists.{vertices_loaded, faces_loaded, order_loaded}
 use Rattle.checker_lists.proofs.read_lists.Statement.{statement}
 use Rattle.checker_lists.proofs.read_lists.Tie as tie
 
@@ -16,22 +16,22 @@ start c = c.before.before.before.before.before.before
 abbrev verts-read : tie.After-read-u32s → tie.After-read-f64s
 verts-read c = c.before.before.before.before
 
-abbrev faces-read : tie.After-read-u32s2 → tie.After-read-u32s
-faces-read c = c.before.before.before.before
+abbrev faces_read : tie.After-read-u32s2 → tie.After-read-u32s
+faces_read c = c.before.before.before.before
 
 returns : tie.Need-returns
 returns c =
     let o = c.before.before in
-    let f = faces-read o in
+    let f = faces_read o in
     let v = verts-read f in
     let n = counted v in
     let st = start n in
     let b = st.args.sheet.now in
     record {
       opened = st.pre.opened;
-      vertices = v.read-f64s.ensures ∙ vertices-loaded b st.pre.vertices;
-      faces = f.read-u32s.ensures ∙ faces-loaded b st.pre.faces (omega (arith, n.before.vertices.ensures));
-      order = o.read-u32s2.ensures ∙ order-loaded b st.pre.order (omega (arith, n.before.vertices.ensures, n.faces.ensures));
+      vertices = v.read-f64s.ensures ∙ vertices_loaded b st.pre.vertices;
+      faces = f.read-u32s.ensures ∙ faces_loaded b st.pre.faces (omega (arith, n.before.vertices.ensures));
+      order = o.read-u32s2.ensures ∙ order_loaded b st.pre.order (omega (arith, n.before.vertices.ensures, n.faces.ensures));
     }
 
 pub read-lists-spec : {M : Type 1} → statement M

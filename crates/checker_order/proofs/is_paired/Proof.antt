@@ -4,7 +4,7 @@ use native.Mathlib.Omega.{arith}
 use borrow.Author.Tests.{not-false}
 use borrow.Author.Rules.{rules}
 use Rattle.lists.proofs.Numbers.{true≢false}
-use Rattle.checker_order.proofs.Pairs.{paired-face}
+use Rattle.checker_order.proofs.Pairs.{paired_face}
 use Rattle.checker_order.proofs.is_paired.Statement.{statement}
 use Rattle.checker_order.proofs.is_paired.Tie as tie
 
@@ -23,7 +23,7 @@ returns-3 c e =
     let second = c.before.before.before in
     let first = second.before.before.before.before in
     let a = (start first).args in
-    paired-face a.sheet.now a.at a.faces.now a.i (omega arith) (omega arith) _ _ _
+    paired_face a.sheet.now a.at a.faces.now a.i (omega arith) (omega arith) _ _ _
     first.before.before.before.u32-at.ensures
     second.before.before.before.u32-at2.ensures
     c.before.before.u32-at3.ensures

@@ -1,8 +1,8 @@
 -- `checker_order::wrong_lists` meets its contract: the causes in order; paired mates are reverses. Assumes nothing.
 use mathlib.Core.Path.{sym, ◌∙◌}
 use borrow.Author.Rules.{rules}
-use Rattle.checker_order.proofs.Mates.{matesAt}
-use Rattle.checker_order.proofs.Pairs.{no-wrong-mate}
+use Rattle.checker_order.proofs.Mates.{mates_standing}
+use Rattle.checker_order.proofs.Pairs.{no_wrong_mate}
 use Rattle.checker_order.proofs.wrong_lists.Statement.{statement}
 use Rattle.checker_order.proofs.wrong_lists.Tie as tie
 
@@ -21,7 +21,7 @@ returns-2 c =
     let paired = (wrong-order c.before).before in
     let a = (start paired).args in
     let f = a.faces.now in
-    rw (sym c.before.before.before.wrong-order.ensures ∙ c.before.enum_told.given.1, no-wrong-mate f (matesAt a.sheet.now a.at f) (paired.all-paired.ensures c.if1.true))
+    rw (sym c.before.before.before.wrong-order.ensures ∙ c.before.enum_told.given.1, no_wrong_mate f (mates_standing a.sheet.now a.at f) (paired.all-paired.ensures c.if1.true))
 
 returns-3 : tie.Need-returns-3
 returns-3 c = rw (sym (wrong-order c.before.before).wrong-order.ensures ∙ c.before.before.enum_told.given.1) c.wrong-mate.ensures

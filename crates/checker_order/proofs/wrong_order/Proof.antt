@@ -7,9 +7,9 @@ use borrow.Author.Tests.{not-true, not-false}
 use Rattle.refusals.specs.declared.Refusal.TheVariants.{WrongOrder}
 use Rattle.refusals.specs.declared.Cause.TheVariants.{None}
 use Rattle.refusals.specs.Causes.{unless, first_of}
-use Rattle.mesh.proofs.Scans.{scan-start, scan-more, scan-stop, scan-end}
+use Rattle.mesh.proofs.Scans.{scan_start, scan_more, scan_stop, scan_end}
 use Rattle.sheet.specs.Checker.{wrong_order, ascends}
-use Rattle.checker_order.proofs.Compare.{Last, no-use, a-use, above, next_last}
+use Rattle.checker_order.proofs.Compare.{Last, no_use, a_use, above, next_last}
 use Rattle.checker_order.proofs.wrong_order.Statement.{statement}
 use Rattle.checker_order.proofs.wrong_order.Tie as tie
 
@@ -35,7 +35,7 @@ loop-holds : tie.Need-loop-init invariant-loop decreases-loop
 loop-holds c =
     let a = c.before.before.before.args in
     let f = a.faces.now in
-    (omega arith, scan-start (length f) (ascends f a.order.now) (λ j. WrongOrder), λ h. absurd (no h))
+    (omega arith, scan_start (length f) (ascends f a.order.now) (λ j. WrongOrder), λ h. absurd (no h))
 
 returns : tie.Need-returns invariant-loop decreases-loop
 unfolding wrong_order
@@ -44,7 +44,7 @@ returns c =
     let a = (start turn).args in
     let f = a.faces.now in
     let o = a.order.now in
-    scan-stop (length f) (ascends f o) (λ j. WrongOrder) turn.loop.i (omega arith) turn.loop.invariant.1 (no-use f o turn.loop.i _ refl c.if1.true)
+    scan_stop (length f) (ascends f o) (λ j. WrongOrder) turn.loop.i (omega arith) turn.loop.invariant.1 (no_use f o turn.loop.i _ refl c.if1.true)
 
 returns-2 : tie.Need-returns-2 invariant-loop decreases-loop
 unfolding wrong_order
@@ -53,8 +53,8 @@ returns-2 c =
     let a = (start turn).args in
     let f = a.faces.now in
     let o = a.order.now in
-    scan-stop (length f) (ascends f o) (λ j. WrongOrder) turn.loop.i (omega arith) turn.loop.inv.1
-    (a-use f o turn.loop.i _ refl c.before.before.before.if1.false
+    scan_stop (length f) (ascends f o) (λ j. WrongOrder) turn.loop.i (omega arith) turn.loop.inv.1
+    (a_use f o turn.loop.i _ refl c.before.before.before.if1.false
     (sym (above f o turn.loop.i _ _ _ refl turn.loop.inv.2 c.before.before.Edge-of.ensures) ∙ sym c.before.is-above.ensures ∙ not-true _ c.if2.true))
 
 loop-again : tie.Need-loop-preserved invariant-loop decreases-loop
@@ -64,8 +64,8 @@ loop-again c =
     let f = a.faces.now in
     let o = a.order.now in (
       omega arith,
-      scan-more (length f) (ascends f o) (λ j. WrongOrder) turn.loop.i turn.loop.inv.1
-          (a-use f o turn.loop.i _ refl c.before.before.before.if1.false
+      scan_more (length f) (ascends f o) (λ j. WrongOrder) turn.loop.i turn.loop.inv.1
+          (a_use f o turn.loop.i _ refl c.before.before.before.if1.false
           (sym (above f o turn.loop.i _ _ _ refl turn.loop.inv.2 c.before.before.Edge-of.ensures) ∙ sym c.before.is-above.ensures ∙ not-false _ c.if2.false)),
       next_last f o turn.loop.i _ _ refl c.before.before.Edge-of.ensures,
     )
@@ -76,7 +76,7 @@ returns-3 c =
     let turn = c.before in
     let a = (start turn).args in
     let f = a.faces.now in
-    scan-end (length f) (ascends f a.order.now) (λ j. WrongOrder) turn.loop.i (omega arith) (omega (arith, (start turn).requires.0.order)) turn.loop.invariant.1
+    scan_end (length f) (ascends f a.order.now) (λ j. WrongOrder) turn.loop.i (omega arith) (omega (arith, (start turn).requires.0.order)) turn.loop.invariant.1
 
 pub wrong-order-spec : {M : Type 1} → statement M
 wrong-order-spec =

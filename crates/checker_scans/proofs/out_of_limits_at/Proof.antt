@@ -9,7 +9,7 @@ use Rattle.refusals.specs.declared.Refusal.TheVariants.{OutOfLimits}
 use Rattle.refusals.specs.declared.Cause.TheVariants.{None}
 use Rattle.refusals.specs.Causes.{unless, first_of}
 use Rattle.sheet_layout.specs.LittleEndian.{unpack, doubles}
-use Rattle.mesh.proofs.Scans.{scan-start, scan-more, scan-stop, scan-end}
+use Rattle.mesh.proofs.Scans.{scan_start, scan_more, scan_stop, scan_end}
 use Rattle.checker_scans.proofs.Read.{double-at}
 use Rattle.mesh.specs.Check.{in_limits, out_of_limits}
 use Rattle.doubles.specs.Magnitude.{within_limits}
@@ -34,7 +34,7 @@ size n b at = simp (length-map, unpack-length)
 loop-holds : tie.Need-loop-init invariant-loop decreases-loop
 loop-holds c =
     let v = doubles (unpack 8 c.before.args.n c.before.args.sheet.now c.before.args.at) in
-    (omega arith, scan-start c.before.args.n (in_limits v) (λ i. OutOfLimits))
+    (omega arith, scan_start c.before.args.n (in_limits v) (λ i. OutOfLimits))
 
 within-limits-requires : tie.Need-within-limits-requires invariant-loop decreases-loop
 within-limits-requires c κs = tt
@@ -45,7 +45,7 @@ returns c =
     let a = (at-loop c.before).before.before.args in
     let v = doubles (unpack 8 a.n a.sheet.now a.at) in
     let i = (at-loop c.before).loop.i in
-    rw (size a.n a.sheet.now a.at) (scan-stop a.n (in_limits v) (λ j. OutOfLimits) i (omega arith) (at-loop c.before).loop.inv.1
+    rw (size a.n a.sheet.now a.at) (scan_stop a.n (in_limits v) (λ j. OutOfLimits) i (omega arith) (at-loop c.before).loop.inv.1
     (ap within_limits (double-at a.sheet.now a.at a.n i (omega arith) ∙ sym c.before.before.f64-at.ensures) ∙ sym c.before.within_limits_lem.ensures ∙ not-true _ c.if1.true))
 
 loop-again : tie.Need-loop-preserved invariant-loop decreases-loop
@@ -54,7 +54,7 @@ loop-again c =
     let v = doubles (unpack 8 a.n a.sheet.now a.at) in
     let i = (at-loop c.before).loop.i in (
       omega arith,
-      scan-more a.n (in_limits v) (λ j. OutOfLimits) i (at-loop c.before).loop.inv.1
+      scan_more a.n (in_limits v) (λ j. OutOfLimits) i (at-loop c.before).loop.inv.1
           (ap within_limits (double-at a.sheet.now a.at a.n i (omega arith) ∙ sym c.before.before.f64-at.ensures) ∙ sym c.before.within_limits_lem.ensures ∙ not-false _ c.if1.false),
     )
 
@@ -63,7 +63,7 @@ unfolding out_of_limits
 returns-2 c =
     let a = c.before.before.before.args in
     let v = doubles (unpack 8 a.n a.sheet.now a.at) in
-    rw (size a.n a.sheet.now a.at) (scan-end a.n (in_limits v) (λ j. OutOfLimits) c.before.loop.i (omega arith) (omega arith) c.before.loop.invariant.1)
+    rw (size a.n a.sheet.now a.at) (scan_end a.n (in_limits v) (λ j. OutOfLimits) c.before.loop.i (omega arith) (omega arith) c.before.loop.invariant.1)
 
 pub out-of-limits-at-spec : {M : Type 1} → statement M
 out-of-limits-at-spec = tie.close (tie.spec invariant-loop decreases-loop loop-holds (λ c. omega arith) (λ c. omega arith) (λ c κs. omega arith) within-limits-requires returns (λ c. omega arith) (λ c. omega arith) loop-again returns-2)

@@ -6,7 +6,7 @@ use borrow.Author.Rules.{rules}
 use Rattle.newtonian.specs.Field as newtonian
 use Rattle.sheet_rows.specs.Row.{in_row, row_cause, answer_of}
 use Rattle.sheet.specs.Input.{row_at}
-use Rattle.sheet.specs.Checker.{kindIn, parse}
+use Rattle.sheet.specs.Checker.{kind_in, parse}
 use Rattle.checker_stations.proofs.Station.{row_is, refused-by, same_bits, other-bits, no_bits}
 use Rattle.checker_stations.proofs.check_station.Statement.{statement}
 use Rattle.checker_stations.proofs.check_station.Tie as tie
@@ -23,7 +23,7 @@ computed c =
     c.row_of.ensures ∙ ap (λ (k : ℕ). in_row k a.m a.a (newtonian.answer_of a.field)) c.before.kind.ensures ∙ row_is a.sheet.now a.i a.m a.a _ h.2 h.3 h.4
 
 -- and so is its cause, 10 or 11, then 13
-caused : (c : tie.After-row-cause) → (let a = (start c.before).args in row_cause (kindIn a.sheet.now) a.i (answer_of c.before.row_of.result) ≡ c.row-cause.result)
+caused : (c : tie.After-row-cause) → (let a = (start c.before).args in row_cause (kind_in a.sheet.now) a.i (answer_of c.before.row_of.result) ≡ c.row-cause.result)
 caused c =
     let a = (start c.before).args in
     ap (λ (k : ℕ). row_cause k a.i (answer_of c.before.row_of.result)) (sym c.before.before.kind.ensures) ∙ sym c.row-cause.ensures

@@ -8,17 +8,17 @@ use Rattle.refusals.specs.Causes.{first_of}
 use Rattle.refusals.specs.declared.Cause.{Cause}
 use Rattle.refusals.specs.declared.Cause.TheVariants.{None}
 use Rattle.sheet_rows.specs.BodyWithCenter.{BodyWithCenter}
-use Rattle.sheet.specs.Checker.{stationsIn, parse, checkStation}
+use Rattle.sheet.specs.Checker.{stations_in, parse, check_station}
 use Rattle.checker_lists.specs.Stages.{stations_cause}
 use Rattle.checker_stations.specs.Outcome.{stations_outcome}
 use Rattle.checker_stations.specs.declared.Outcome.{Outcome}
-use Rattle.checker_stations.proofs.InBlocks.{block-passed, block_refused}
+use Rattle.checker_stations.proofs.InBlocks.{block_passed, block_refused}
 use Rattle.checker_stations.proofs.Station.{field_is}
 use Rattle.checker_stations.proofs.check_stations.Statement.{statement}
 use Rattle.checker_stations.proofs.check_stations.Tie as tie
 
 abbrev invariant-loop : tie.invariant-loop
-invariant-loop sheet c verts faces t m a kind total first₀ first = (first ≤ total) × (first_of first (checkStation sheet (parse sheet)) ≡ None)
+invariant-loop sheet c verts faces t m a kind total first₀ first = (first ≤ total) × (first_of first (check_station sheet (parse sheet)) ≡ None)
 
 abbrev decreases-loop : tie.decreases-loop
 decreases-loop sheet c verts faces t m a kind total first₀ first = total - first
@@ -47,7 +47,7 @@ loop-holds : tie.Need-loop-init invariant-loop decreases-loop
 loop-holds c = (omega arith, none _)
 
 -- the stations of the turn are the sheet's
-within : (c : tie.After-fewer invariant-loop decreases-loop) → c.before.before.loop.first + c.fewer.result ≤ stationsIn (start (entered c.before.before)).args.sheet.now
+within : (c : tie.After-fewer invariant-loop decreases-loop) → c.before.before.loop.first + c.fewer.result ≤ stations_in (start (entered c.before.before)).args.sheet.now
 within c = omega (arith, c.fewer.ensures, c.before.loop-test.true, c.before.before.before.stations.ensures)
 
 fields-at-requires : tie.Need-fields-at-requires invariant-loop decreases-loop
@@ -91,7 +91,7 @@ returns c =
     let l = (turn done).loop in
     let b = (start (entered (turn done))).args.sheet.now in
     c.refused-by.ensures
-    ∙ handed (sym (block_refused l.first fewer.fewer.result (checkStation b (parse b)) l.inv.1 (stationsIn b) _ (within fewer) (sym done.check-block.ensures ∙ told.before.cause.given.1)))
+    ∙ handed (sym (block_refused l.first fewer.fewer.result (check_station b (parse b)) l.inv.1 (stations_in b) _ (within fewer) (sym done.check-block.ensures ∙ told.before.cause.given.1)))
 
 loop-again : tie.Need-loop-preserved invariant-loop decreases-loop
 loop-again c =
@@ -99,15 +99,15 @@ loop-again c =
     let fewer = done.before.before.before in
     let l = (turn done).loop in
     let b = (start (entered (turn done))).args.sheet.now in
-    (omega (arith, fewer.fewer.ensures, fewer.before.loop-test.true), block-passed l.first fewer.fewer.result (checkStation b (parse b)) l.inv.1 (sym done.check-block.ensures ∙ c.enum_told.given.1))
+    (omega (arith, fewer.fewer.ensures, fewer.before.loop-test.true), block_passed l.first fewer.fewer.result (check_station b (parse b)) l.inv.1 (sym done.check-block.ensures ∙ c.enum_told.given.1))
 
 returns-2 : tie.Need-returns-2 invariant-loop decreases-loop
 unfolding stations_outcome stations_cause
 returns-2 c =
     let at = c.before in
     let b = (start (entered at)).args.sheet.now in
-    let e : at.loop.first ≡ stationsIn b = omega (arith, at.before.stations.ensures) in
-    handed (sym (subst (λ (n : ℕ). first_of n (checkStation b (parse b)) ≡ None) e at.loop.invariant.1))
+    let e : at.loop.first ≡ stations_in b = omega (arith, at.before.stations.ensures) in
+    handed (sym (subst (λ (n : ℕ). first_of n (check_station b (parse b)) ≡ None) e at.loop.invariant.1))
 
 pub check-stations-spec : {M : Type 1} → statement M
 check-stations-spec =

@@ -8,7 +8,7 @@ use Rattle.mesh.specs.Surface.{vertex}
 use Rattle.polyhedron_blocks.proofs.Elements.{Filled, filled_more, filled_none}
 use Rattle.polyhedron_blocks.specs.Blocks.{block_size, no_vector}
 use Rattle.mesh_orders.specs.Edges.{max_stations}
-use Rattle.sheet.specs.Checker.{parse, stationsIn, vectorIn}
+use Rattle.sheet.specs.Checker.{parse, stations_in, vector_in}
 use Rattle.checker_stations.proofs.Station.{place_is}
 use Rattle.checker_stations.proofs.places_in.Statement.{statement}
 use Rattle.checker_stations.proofs.places_in.Tie as tie
@@ -24,10 +24,10 @@ loop-holds c = (omega arith, filled_none no_vector _ block_size _ refl)
 
 -- a station of the turn is one of the sheet's, and stands in it
 within : (c : tie.In-loop invariant-loop decreases-loop) → (let st = c.before.before.before.before in
-    (st.args.first + c.before.loop.j < stationsIn st.args.sheet.now) × (c.before.before.stations-start.result + 24 * (st.args.first + c.before.loop.j) + 24 ≤ length st.args.sheet.now))
+    (st.args.first + c.before.loop.j < stations_in st.args.sheet.now) × (c.before.before.stations-start.result + 24 * (st.args.first + c.before.loop.j) + 24 ≤ length st.args.sheet.now))
 within c =
     let st = c.before.before.before.before in
-    let l : st.args.first + c.before.loop.j < stationsIn st.args.sheet.now = omega (arith, c.loop-test.true, st.requires.2) in
+    let l : st.args.first + c.before.loop.j < stations_in st.args.sheet.now = omega (arith, c.loop-test.true, st.requires.2) in
     (l, omega (arith, l, st.requires.0.whole, c.before.before.stations-start.ensures))
 
 fits : (c : tie.In-loop invariant-loop decreases-loop) → (let st = c.before.before.before.before in st.args.first + c.before.loop.j < max_stations)
@@ -40,7 +40,7 @@ loop-again c =
     let b = st.args.sheet.now in (
       omega (arith, c.before.loop-test.true),
       filled_more no_vector _ block_size l.j l.out c.vector-at.result l.invariant.1 (omega (arith, c.before.loop-test.true, st.requires.1))
-          (place_is b (st.args.first + l.j) _ (within c.before).0 (c.vector-at.ensures ∙ ap (λ (x : ℕ). vectorIn b (x + 24 * (st.args.first + l.j))) c.before.before.before.stations-start.ensures)),
+          (place_is b (st.args.first + l.j) _ (within c.before).0 (c.vector-at.ensures ∙ ap (λ (x : ℕ). vector_in b (x + 24 * (st.args.first + l.j))) c.before.before.before.stations-start.ensures)),
     )
 
 returns : tie.Need-returns invariant-loop decreases-loop

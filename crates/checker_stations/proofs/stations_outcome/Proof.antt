@@ -2,7 +2,7 @@
 use mathlib.Core.Path.{◌≡◌}
 use borrow.Author.Rules.{rules}
 use Rattle.checker_lists.specs.Stages.{Ready}
-use Rattle.checker_lists.proofs.Lists.{now-ready, in_order}
+use Rattle.checker_lists.proofs.Lists.{now_ready, in_order}
 use Rattle.checker_stations.proofs.stations_outcome.Statement.{statement}
 use Rattle.checker_stations.proofs.stations_outcome.Tie as tie
 
@@ -11,7 +11,7 @@ abbrev start : tie.After-kind → tie.Start
 start c = c.before.before.before.before.before
 
 ready : (c : tie.After-kind) → let a = (start c).args in Ready a.sheet.now a.verts.now a.faces.now
-ready c = let a = (start c).args in now-ready a.sheet.now a.verts.now a.faces.now a.order.now (start c).requires.0 (start c).requires.1
+ready c = let a = (start c).args in now_ready a.sheet.now a.verts.now a.faces.now a.order.now (start c).requires.0 (start c).requires.1
 
 center-of-requires : tie.Need-center-of-requires
 center-of-requires c κs =

@@ -4,7 +4,7 @@ use native.Mathlib.Nat.{le_refl}
 use native.Mathlib.Omega.{arith}
 use Rattle.lanes.proofs.Filling.{Filled, none_filled, one-filled, all-filled}
 use Rattle.lanes_rc.specs.LaneRounds.{after_one, start}
-use Rattle.lanes_rc.proofs.OneLane.{Reads, round-x, round-y, round-a, round-f}
+use Rattle.lanes_rc.proofs.OneLane.{Reads, round_x, round_y, round_a, round_f}
 use Rattle.lanes_rc_24.proofs.round.Given as goal
 
 abbrev pub invariant-loop-k : goal.invariant-loop-k

@@ -4,7 +4,7 @@ use native.Mathlib.Nat.{le_refl}
 use native.Mathlib.Omega.{arith}
 use Rattle.lanes.proofs.Filling.{Filled, none_filled, one-filled, all-filled}
 use Rattle.lanes_rc.specs.LaneRounds.{after_one, start}
-use Rattle.lanes_rc.proofs.OneLane.{Reads, round-x, round-y, round-a, round-f}
+use Rattle.lanes_rc.proofs.OneLane.{Reads, round_x, round_y, round_a, round_f}
 use Rattle.lanes_rc_8.proofs.round.Goals as goal
 
 pub loop-k-init : goal.loop-k-init
@@ -24,10 +24,10 @@ loop-k-preserved c =
       l_is = c.lambda_if-lambda.ensures;
       t_is = c.loop_test-t.ensures;
     } in (
-      one-filled i.0 l (round-x w c.pick.ensures),
-      one-filled i.1 l (round-y w c.pick-in-loop-k.ensures),
-      one-filled i.2 l (round-a w c.pick-in-loop-k-2.ensures),
-      one-filled i.3 l (round-f w c.pick-in-loop-k-3.ensures),
+      one-filled i.0 l (round_x w c.pick.ensures),
+      one-filled i.1 l (round_y w c.pick-in-loop-k.ensures),
+      one-filled i.2 l (round_a w c.pick-in-loop-k-2.ensures),
+      one-filled i.3 l (round_f w c.pick-in-loop-k-3.ensures),
     )
 
 pub returns : goal.returns

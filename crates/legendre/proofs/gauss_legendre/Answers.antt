@@ -4,7 +4,7 @@ use Prim.Native.Nat.{ℕ}
 use mathlib.Core.Logic.{inl, inr}
 use native.Mathlib.Omega.{arith}
 use Rattle.legendre.specs.Table.{table}
-use Rattle.legendre.specs.Answers.{ruleAnswer}
+use Rattle.legendre.specs.Answers.{answer_of_rule}
 use Rattle.legendre.specs.declared.Rule.{Rule}
 use Rattle.legendre.specs.GaussLegendre.{node, weight, gauss_legendre, rule_of}
 use Rattle.legendre.specs.RuleEntries.{order-accepted, order-refused, rule_answer}
@@ -12,8 +12,8 @@ use Rattle.legendre.proofs.Entries.{entries, square}
 use Rattle.legendre.proofs.gauss_legendre.Goals as goal
 
 -- the second clause follows from the first
-both : {r : Rule} (n : ℕ) → r ≡ gauss_legendre n → (r ≡ gauss_legendre n) × (ruleAnswer r ≡ rule_of n)
-both n e = (e, ap ruleAnswer e ∙ rule_answer n)
+both : {r : Rule} (n : ℕ) → r ≡ gauss_legendre n → (r ≡ gauss_legendre n) × (answer_of_rule r ≡ rule_of n)
+both n e = (e, ap answer_of_rule e ∙ rule_answer n)
 
 pub returns-then-n-lt1 : goal.returns-then-n-lt1
 returns-then-n-lt1 c =  let whole = both _ (c.refused.ensures ∙ sym (order-refused _ (inl (omega arith)))) in record { value = whole.0; result_value = whole.1 }

@@ -1,14 +1,14 @@
 -- `mesh::count_cause` meets its contract: the causes 1, 2 and 12 in order. Assumes nothing.
 use mathlib.Core.Path.{sym}
 use Rattle.mesh.specs.CauseLaws.{count_none}
-use Rattle.mesh.proofs.Counts.{refuse-vertices, refuse-triples, many-vertices, many-faces, too_short_lem}
+use Rattle.mesh.proofs.Counts.{refuse_vertices, refuse_triples, many-vertices, many-faces, too_short_lem}
 use Rattle.mesh.proofs.count_cause.Goals as goal
 
 pub returns-then-verts-ne0 : goal.returns-then-verts-ne0
-returns-then-verts-ne0 c = refuse-vertices c.args.verts.now c.args.faces.now c.args.room c.if-verts-ne0.true
+returns-then-verts-ne0 c = refuse_vertices c.args.verts.now c.args.faces.now c.args.room c.if-verts-ne0.true
 
 pub returns-then-faces-ne0 : goal.returns-then-faces-ne0
-returns-then-faces-ne0 c = refuse-triples c.args.verts.now c.args.faces.now c.args.room c.if-verts-ne0.false c.if-faces-ne0.true
+returns-then-faces-ne0 c = refuse_triples c.args.verts.now c.args.faces.now c.args.room c.if-verts-ne0.false c.if-faces-ne0.true
 
 pub returns-then-verts-gt-MAX_VERTICES : goal.returns-then-verts-gt-MAX_VERTICES
 returns-then-verts-gt-MAX_VERTICES c = many-vertices c.args.verts.now c.args.faces.now c.args.room c.if-verts-ne0.false c.if-faces-ne0.false c.if-verts-gt-MAX_VERTICES.true

@@ -13,7 +13,7 @@ use Rattle.mesh.specs.Surface.{volume, vertex_count}
 use Rattle.mesh.specs.Check.{no_such_vertex, order_cause, surface_cause, solid_of, work_after}
 use Rattle.mesh.specs.CauseLaws.{is_body, none-vertex}
 use Rattle.mesh_check.specs.CheckedMates.{mates_after}
-use Rattle.mesh_check.proofs.Work.{early-vertex, work-early, work-order}
+use Rattle.mesh_check.proofs.Work.{early_vertex, work_early, work-order}
 use Rattle.mesh_check.proofs.check_surface_with_mates.Goals as goal
 
 pub returns-in-Refused : goal.returns-in-Refused
@@ -24,7 +24,7 @@ returns-in-Refused c =
     let w = c.args.work.now in
     let r = c.in-Refused.r in
     let e : no_such_vertex (vertex_count v) f ≡ Refused r = sym c.no_such_vertex-missing.ensures ∙ c.in-Refused.is in
-    let s : surface_cause v f ≡ Refused r = ap (λ (d : Cause). or_else d (order_cause v f (order_list f))) e in record { value = sym (ap (λ (d : Cause). solid_of d (volume v f)) s); work_after = sym (ap (λ (d : Cause). work_after d f w) s ∙ work-early f w r (early-vertex v f r e)); mates_after = sym (ap (λ (d : Cause). mates_after d f c.args.mates.now) s) }
+    let s : surface_cause v f ≡ Refused r = ap (λ (d : Cause). or_else d (order_cause v f (order_list f))) e in record { value = sym (ap (λ (d : Cause). solid_of d (volume v f)) s); work_after = sym (ap (λ (d : Cause). work_after d f w) s ∙ work_early f w r (early_vertex v f r e)); mates_after = sym (ap (λ (d : Cause). mates_after d f c.args.mates.now) s) }
 
 pub by_size-requires : goal.by_size-requires
 by_size-requires c =

@@ -1,6 +1,6 @@
 -- `polyhedron_edge_face_sums::near_field` meets its contract: the count says whether there are too many edges. Assumes nothing.
 use native.Mathlib.Omega.{arith}
-use Rattle.polyhedron_edge_face_sums.proofs.Carrying.{not-too-many, too_many}
+use Rattle.polyhedron_edge_face_sums.proofs.Carrying.{not-too_many, too_many}
 use Rattle.polyhedron_edge_face_sums.specs.EdgeFaceSums.{sums_of}
 use Rattle.polyhedron_edge_face_sums.proofs.near_field.Goals as goal
 
@@ -11,5 +11,5 @@ pub returns : goal.returns
 returns c =
     let a = c.args in
     λ p v f keys h.
-    not-too-many a.i p v f keys a.dyads.now a.run h (omega (arith, c.if-count-gt-EDGE_LIMIT.false)) c.symmetric.result
+    not-too_many a.i p v f keys a.dyads.now a.run h (omega (arith, c.if-count-gt-EDGE_LIMIT.false)) c.symmetric.result
     (simp (c.symmetric.ensures, c.add_infinite-t.ensures (sums_of p v f).edges keys h.edges))

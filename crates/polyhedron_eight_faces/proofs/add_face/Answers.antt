@@ -3,7 +3,7 @@ use mathlib.Core.Path.{sym, ap₂, ◌∙◌}
 use Prim.Native.Nat.{◌+◌}
 use native.Mathlib.Omega.{arith}
 use Rattle.polyhedron_edge_terms.specs.EdgeTerms.{dyad}
-use Rattle.polyhedron_eight_faces.specs.EightFaces.{addFaceAt}
+use Rattle.polyhedron_eight_faces.specs.EightFaces.{add_face_at}
 use Rattle.polyhedron_eight_faces.proofs.Adding.{side_dyad_lem}
 use Rattle.polyhedron_eight_faces.proofs.add_face.Goals as goal
 
@@ -26,7 +26,7 @@ add_side-requires c =
     (omega (arith, l), side_dyad_lem c.requires.dyads (16 + c.args.k) c.args.k (omega (arith, l)) (omega (arith, l)) c.vector_8-n.ensures)
 
 pub returns : goal.returns
-unfolding addFaceAt
+unfolding add_face_at
 returns c =
     rw (
       c.add_side.ensures,

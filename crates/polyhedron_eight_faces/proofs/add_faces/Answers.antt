@@ -3,7 +3,7 @@ use mathlib.Core.Path.{◌≡◌}
 use Prim.Native.Nat.{◌≤◌, ◌-◌}
 use native.Mathlib.Omega.{arith}
 use Rattle.newtonian.specs.Fold.{Fold, fold-none, fold_more}
-use Rattle.polyhedron_eight_faces.specs.EightFaces.{addFaceAt}
+use Rattle.polyhedron_eight_faces.specs.EightFaces.{add_face_at}
 use borrow.Author.Rules.{rules}
 use Rattle.polyhedron_eight_faces.proofs.add_faces.Goals as goal
 

@@ -6,8 +6,8 @@ use Rattle.newtonian.specs.Vectors.{cross}
 use Rattle.newtonian.specs.declared.Vector.{Vector}
 use Rattle.lanes.proofs.Filling.{Filled}
 use Rattle.polyhedron_faces.specs.Parts.{edge_at, raw_side, square}
-use Rattle.polyhedron_faces.proofs.SidesMade.{edge-is, side-is}
-use Rattle.polyhedron_faces.proofs.FillingRows.{row-begins, row_ends, row-goes-on}
+use Rattle.polyhedron_faces.proofs.SidesMade.{edge-is, side_is}
+use Rattle.polyhedron_faces.proofs.FillingRows.{row_begins, row_ends, row_goes_on}
 use Rattle.polyhedron_faces.proofs.raw_sides_8.Goals as goal
 
 pub loop-k-init : goal.loop-k-init
@@ -15,7 +15,7 @@ loop-k-init c =
     let f = c.args.from in
     let l = c.requires.from_bound.0 in
     let w = c.requires.raw_sides in
-    (row-begins f w.on_x (omega (arith, l)), row-begins f w.on_y (omega (arith, l)), row-begins f w.on_z (omega (arith, l)), row-begins f w.normals (omega (arith, l)), row-begins f w.edges (omega (arith, l)))
+    (row_begins f w.on_x (omega (arith, l)), row_begins f w.on_y (omega (arith, l)), row_begins f w.on_z (omega (arith, l)), row_begins f w.normals (omega (arith, l)), row_begins f w.edges (omega (arith, l)))
 
 pub loop-k-preserved : goal.loop-k-preserved
 loop-k-preserved c =
@@ -33,12 +33,12 @@ loop-k-preserved c =
     c.difference-edge.ensures ∙ edge-is s.cx.now s.cy.now s.cz.now i (s.to + k) ej c.vector_24-a.ensures c.vector_24-b.ensures in
     let e₂ : c.cross-m.result ≡ raw_side s.cx.now s.cy.now s.cz.now s.nx.now s.ny.now s.nz.now i =
     c.cross-m.ensures ∙ ap (λ (v : Vector). cross v c.vector_8-n.result) c.difference-edge.ensures
-    ∙ side-is s.cx.now s.cy.now s.cz.now i (s.to + k) ej c.vector_24-a.ensures c.vector_24-b.ensures s.nx.now s.ny.now s.nz.now k ek c.vector_8-n.ensures in (
-      row-goes-on s.from k u.invariant.0 h (ap (λ (v : Vector). v.x) e₂),
-      row-goes-on s.from k u.invariant.1 h (ap (λ (v : Vector). v.y) e₂),
-      row-goes-on s.from k u.invariant.2 h (ap (λ (v : Vector). v.z) e₂),
-      row-goes-on s.from k u.invariant.3 h (c.dot.ensures ∙ ap square e₂),
-      row-goes-on s.from k u.invariant.4 h (c.dot-in-loop-k.ensures ∙ ap square e₁),
+    ∙ side_is s.cx.now s.cy.now s.cz.now i (s.to + k) ej c.vector_24-a.ensures c.vector_24-b.ensures s.nx.now s.ny.now s.nz.now k ek c.vector_8-n.ensures in (
+      row_goes_on s.from k u.invariant.0 h (ap (λ (v : Vector). v.x) e₂),
+      row_goes_on s.from k u.invariant.1 h (ap (λ (v : Vector). v.y) e₂),
+      row_goes_on s.from k u.invariant.2 h (ap (λ (v : Vector). v.z) e₂),
+      row_goes_on s.from k u.invariant.3 h (c.dot.ensures ∙ ap square e₂),
+      row_goes_on s.from k u.invariant.4 h (c.dot-in-loop-k.ensures ∙ ap square e₁),
     )
 
 pub returns : goal.returns

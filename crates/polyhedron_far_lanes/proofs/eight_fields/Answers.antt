@@ -7,7 +7,7 @@ use Rattle.newtonian.specs.Fold.{Fold}
 use Rattle.newtonian.specs.Vectors.{zero_field}
 use Rattle.polyhedron_far_points.specs.Tetrahedral.{point_at, point_step}
 use Rattle.polyhedron_far_lanes.specs.EightFields.{Fields}
-use Rattle.polyhedron_far_lanes.proofs.Threes.{all-points, no-three, three-more}
+use Rattle.polyhedron_far_lanes.proofs.Threes.{all-points, no_three, three_more}
 use Rattle.polyhedron_far_lanes.proofs.eight_fields.Goals as goal
 
 pub loop-t-init : goal.loop-t-init
@@ -17,7 +17,7 @@ loop-t-init c =
       omega arith,
       refl,
       refl,
-      no-three (λ (k : ℕ). point_step (point_at g.px g.py g.pz k) a.x.now a.y.now a.z.now a.w.now) zero_field c.no_fields-f.ensures,
+      no_three (λ (k : ℕ). point_step (point_at g.px g.py g.pz k) a.x.now a.y.now a.z.now a.w.now) zero_field c.no_fields-f.ensures,
     )
 
 pub add_three-requires : goal.add_three-requires
@@ -34,7 +34,7 @@ loop-t-preserved c =
       omega (arith, c.loop-t-test.true),
       w.q_len.0,
       w.q_len.1,
-      three-more (λ (k : ℕ). point_step (point_at g.px g.py g.pz k) a.x.now a.y.now a.z.now a.w.now) zero_field l.t l.invariant.3 w.fields,
+      three_more (λ (k : ℕ). point_step (point_at g.px g.py g.pz k) a.x.now a.y.now a.z.now a.w.now) zero_field l.t l.invariant.3 w.fields,
     )
 
 pub returns : goal.returns

@@ -10,7 +10,7 @@ use Rattle.newtonian.specs.Fold.{Fold}
 use Rattle.mesh.specs.Surface.{face_count}
 use Rattle.polyhedron_edge_face_sums.specs.EdgeFaceSums.{add_triangle, no_faces, sums_of, triangle_of}
 use Rattle.polyhedron_blocks.specs.Blocks.{Blocked, CarriesAt, block_size, no_vector}
-use Rattle.polyhedron_blocks.proofs.Starts.{blocked-start, carries-start, room_of}
+use Rattle.polyhedron_blocks.proofs.Starts.{blocked_start, carries_start, room_of}
 use Rattle.lanes.proofs.Folds.{fold-add}
 use Rattle.polyhedron_neumaier.specs.Neumaier.{no_sums}
 use Rattle.polyhedron_tetrahedra.specs.Tetrahedra.{add_tetrahedron}
@@ -35,8 +35,8 @@ loop-holds c =
     let y = c.before.before.before.before.before.key-room in
     let s = c.no-far-sums.ensures in (
       omega arith,
-      blocked-start y.result d.result z.result (room_of y.result d.result y.ensures.0 d.ensures.0 y.ensures.1 d.ensures.1),
-      λ i h m. carries-start y.result d.result z.result z.ensures i h,
+      blocked_start y.result d.result z.result (room_of y.result d.result y.ensures.0 d.ensures.0 y.ensures.1 d.ensures.1),
+      λ i h m. carries_start y.result d.result z.result z.ensures i h,
       s.0,
       λ i h m. s.1 i h,
     )

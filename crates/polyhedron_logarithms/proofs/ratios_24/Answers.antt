@@ -4,7 +4,7 @@ use Prim.Native.Nat.{ℕ, ◌-◌, ◌≤◌, ◌<◌}
 use native.Mathlib.Omega.{arith}
 use Rattle.lanes.specs.Lanes.{lane}
 use Rattle.lanes.proofs.Filling.{Filled, none_filled, one-filled, all-filled, refilled}
-use Rattle.polyhedron_logarithms.specs.Sides.{corner_at, ratioAt}
+use Rattle.polyhedron_logarithms.specs.Sides.{corner_at, ratio_at}
 use Rattle.polyhedron_logarithms.proofs.Terms.{next_low, next-high, ratio-same}
 use borrow.Author.Rules.{rules}
 use Rattle.polyhedron_logarithms.proofs.ratios_24.Goals as goal

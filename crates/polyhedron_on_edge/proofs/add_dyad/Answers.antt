@@ -2,7 +2,7 @@
 use mathlib.Core.Path.{◌∙◌, ap}
 use native.Mathlib.Omega.{arith}
 use lib.ListN.{length, length-set}
-use Rattle.polyhedron_on_edge.proofs.Adding.{is_found, is-new, is-past, was-full}
+use Rattle.polyhedron_on_edge.proofs.Adding.{is_found, is_new, is_past, was_full}
 use Rattle.polyhedron_on_edge.proofs.Storing.{stored-length}
 use Rattle.polyhedron_on_edge.proofs.add_dyad.Goals as goal
 
@@ -11,7 +11,7 @@ returns-then-count-gt-EDGE_LIMIT c =
     let a = c.args in
     let keys = a.keys.now in
     let dyads = a.dyads.now in
-    record { sized = c.requires; holds_edges = λ es h. was-full es keys dyads a.count h a.key a.d (omega arith) }
+    record { sized = c.requires; holds_edges = λ es h. was_full es keys dyads a.count h a.key a.d (omega arith) }
 
 pub returns-then-at-count : goal.returns-then-at-count
 returns-then-at-count c =
@@ -26,7 +26,7 @@ returns-then-count-eq-EDGE_LIMIT c =
     let a = c.args in
     let keys = a.keys.now in
     let dyads = a.dyads.now in
-    let f = c.find-at in record { sized = record { few = omega arith; keyed = c.requires.keyed; filled = c.requires.filled }; holds_edges = λ es h. is-past es keys dyads a.count h a.key a.d (omega arith) f.result f.ensures c.requires.filled (omega (arith, f.ensures.upto)) c.if-count-eq-EDGE_LIMIT.true }
+    let f = c.find-at in record { sized = record { few = omega arith; keyed = c.requires.keyed; filled = c.requires.filled }; holds_edges = λ es h. is_past es keys dyads a.count h a.key a.d (omega arith) f.result f.ensures c.requires.filled (omega (arith, f.ensures.upto)) c.if-count-eq-EDGE_LIMIT.true }
 
 pub returns : goal.returns
 returns c =
@@ -34,4 +34,4 @@ returns c =
     let keys = a.keys.now in
     let dyads = a.dyads.now in
     let f = c.find-at in
-    let q = simp c.hessian_numbers-2.ensures at c.store-2.ensures in record { sized = record { few = omega arith; keyed = length-set keys a.count a.key ∙ c.requires.keyed; filled = ap length c.store-2.ensures ∙ stored-length a.count c.hessian_numbers-2.result dyads ∙ c.requires.filled }; holds_edges = λ es h. is-new es keys dyads a.count h a.key a.d (omega arith) f.result f.ensures c.requires.filled (omega (arith, f.ensures.upto)) (omega arith) c.requires.keyed c.store-2.new.dyads q }
+    let q = simp c.hessian_numbers-2.ensures at c.store-2.ensures in record { sized = record { few = omega arith; keyed = length-set keys a.count a.key ∙ c.requires.keyed; filled = ap length c.store-2.ensures ∙ stored-length a.count c.hessian_numbers-2.result dyads ∙ c.requires.filled }; holds_edges = λ es h. is_new es keys dyads a.count h a.key a.d (omega arith) f.result f.ensures c.requires.filled (omega (arith, f.ensures.upto)) (omega arith) c.requires.keyed c.store-2.new.dyads q }

@@ -4,7 +4,7 @@ use mathlib.Core.Path.{◌∙◌, ◌≡◌, refl, sym}
 use Prim.Native.Nat.{◌-◌, ◌≤◌, ℕ}
 use native.Mathlib.Omega.{arith}
 use lib.ListN.{drop}
-use Rattle.polyhedron_on_edge.proofs.Adding.{infinite-end, infinite-more}
+use Rattle.polyhedron_on_edge.proofs.Adding.{infinite_end, infinite_more}
 use Rattle.polyhedron_on_edge.specs.Block.{HoldsEdges}
 use Rattle.polyhedron_on_edge.specs.OnEdge.{Edge, add_infinite}
 use borrow.Author.Rules.{rules}
@@ -16,7 +16,7 @@ loop-i-preserved c =
     (
       search rules,
       λ es keys h.
-          simp (c.infinite_entries-sums.ensures, c.dyad_at.ensures) (infinite-more es keys c.args.dyads.now c.args.count h c.requires l.i (omega arith) l.sums)
+          simp (c.infinite_entries-sums.ensures, c.dyad_at.ensures) (infinite_more es keys c.args.dyads.now c.args.count h c.requires l.i (omega arith) l.sums)
           ∙ l.invariant.1 es keys h,
     )
 
@@ -24,7 +24,7 @@ pub returns : goal.returns
 returns c =
     let l = c.loop-i in
     let e : l.i ≡ c.args.count = omega arith in
-    λ es keys h. sym (infinite-end es keys c.args.dyads.now c.args.count h c.requires l.sums) ∙ (rw e at (l.invariant.1 es keys h))
+    λ es keys h. sym (infinite_end es keys c.args.dyads.now c.args.count h c.requires l.sums) ∙ (rw e at (l.invariant.1 es keys h))
 
 pub loop-i-init : goal.loop-i-init
 loop-i-init c = (search rules, λ es keys h. refl)

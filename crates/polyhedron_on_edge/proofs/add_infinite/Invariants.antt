@@ -4,7 +4,7 @@ use mathlib.Core.Path.{◌∙◌, ◌≡◌, refl, sym}
 use Prim.Native.Nat.{◌-◌, ◌≤◌, ℕ}
 use native.Mathlib.Omega.{arith}
 use lib.ListN.{drop}
-use Rattle.polyhedron_on_edge.proofs.Adding.{infinite-end, infinite-more}
+use Rattle.polyhedron_on_edge.proofs.Adding.{infinite_end, infinite_more}
 use Rattle.polyhedron_on_edge.specs.Block.{HoldsEdges}
 use Rattle.polyhedron_on_edge.specs.OnEdge.{Edge, add_infinite}
 use Rattle.polyhedron_on_edge.proofs.add_infinite.Given as goal

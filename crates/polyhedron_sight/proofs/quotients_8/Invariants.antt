@@ -2,12 +2,12 @@
 use mathlib.Core.Path.{◌∙◌}
 use Prim.Native.Nat.{◌-◌}
 use Rattle.lanes.proofs.Filling.{Filled, none_filled, one-filled, all-filled}
-use Rattle.polyhedron_sight.specs.Sight.{tripleAt, denominatorAt}
+use Rattle.polyhedron_sight.specs.Sight.{triple_at, denominator_at}
 use Rattle.polyhedron_sight.proofs.Terms.{triple-same, denominator-same}
 use Rattle.polyhedron_sight.proofs.quotients_8.Given as goal
 
 abbrev pub invariant-loop-k : goal.invariant-loop-k
-invariant-loop-k l = (Filled 8 (tripleAt l.x l.y l.z l.l) l.initial.s l.k l.s) × (Filled 8 (denominatorAt l.x l.y l.z l.l) l.initial.c l.k l.c)
+invariant-loop-k l = (Filled 8 (triple_at l.x l.y l.z l.l) l.initial.s l.k l.s) × (Filled 8 (denominator_at l.x l.y l.z l.l) l.initial.c l.k l.c)
 
 abbrev pub decreases-loop-k : goal.decreases-loop-k
 decreases-loop-k l = 8 - l.k

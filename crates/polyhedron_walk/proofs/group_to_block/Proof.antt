@@ -7,7 +7,7 @@ use borrow.Author.Rules.{rules}
 use lib.ListN.{get_or}
 use Rattle.polyhedron_edge_face_sums.specs.EdgeFaceSums.{Sums}
 use Rattle.polyhedron_blocks.specs.Blocks.{Blocked, CarriesAt, block_size, no_vector}
-use Rattle.polyhedron_blocks.proofs.Turns.{blocked-set, one_more}
+use Rattle.polyhedron_blocks.proofs.Turns.{blocked_set, one_more}
 use Rattle.polyhedron_edge_face_sums.specs.Carried.{with_faces}
 use Rattle.polyhedron_walk.proofs.group_to_block.Statement.{statement}
 use Rattle.polyhedron_walk.proofs.group_to_block.Tie as tie
@@ -38,7 +38,7 @@ loop-again c =
     let t : l.j < block_size = omega (arith, u.loop-test.true) in
     let w = c.group-if-near in (
       omega (arith, t),
-      blocked-set l.keys l.dyads l.out l.j w.new.0 w.new.1.0 w.result l.invariant.1 t w.ensures.0,
+      blocked_set l.keys l.dyads l.out l.j w.new.0 w.new.1.0 w.result l.invariant.1 t w.ensures.0,
       λ i h m s g. one_more l.keys l.dyads l.out l.j w.new.0 w.new.1.0 w.result l.invariant.1 t i s _ (λ e x. rw e (w.ensures.1 (rw e at m) s (rw e at x))) (l.invariant.2 i h m s g),
     )
 

@@ -2,7 +2,7 @@
 use Rattle.std.proofs.Common.{◌≡◌, ℕ, ◌+◌, ◌*◌, ◌%◌, ◌^◌, ◌<◌, ◌≤◌, T, ◌∙◌, pos_of_ne-zero, arith, rules}
 use lib.Ieee.{binary64, fits, to_bits}
 use Rattle.doubles.proofs.Signs.{true→T, is_number}
-use Rattle.roots.proofs.Patterns.{root_nan, by_bits, own-zero, own-infinity, own-negative-zero, other}
+use Rattle.roots.proofs.Patterns.{root_nan, by_bits, own-zero, own_infinity, own-negative-zero, other}
 use Rattle.roots.proofs.root.Goals as goal
 
 -- neither a finite number above zero nor zero
@@ -28,7 +28,7 @@ returns-then-b-eq0 c =
 pub returns-then-b-eq9218868437227405312 : goal.returns-then-b-eq9218868437227405312
 returns-then-b-eq9218868437227405312 c =
     let held : T (fits binary64 c.args.x) = true→T c.well_formed.0.1 in
-    own-infinity c.args.x held c.if-b-eq9218868437227405312.true
+    own_infinity c.args.x held c.if-b-eq9218868437227405312.true
 
 pub returns-then-b : goal.returns-then-b
 returns-then-b c =

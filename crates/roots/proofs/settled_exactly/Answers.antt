@@ -1,17 +1,17 @@
 -- `roots::settled_exactly` meets its contract: the arithmetic is in `Ties.antt`. Assumes nothing.
 use Rattle.std.proofs.Common.{◌≡◌, ℕ, ◌+◌, ◌-◌, ◌*◌, ◌%◌, ◌^◌, ◌<◌, arith, rules}
-use Rattle.roots.proofs.Trial.{gh-lt, hh-lt, low}
+use Rattle.roots.proofs.Trial.{gh_lt, hh_lt, low}
 use Rattle.roots.proofs.Ties.{lacks, least, middle, most}
 use Rattle.roots.proofs.settled_exactly.Goals as goal
 
 pub overflow_mul-g : goal.overflow_mul-g
-overflow_mul-g c = omega (arith, gh-lt c.args.f c.args.g (c.args.h - 1) c.requires.0 c.requires.1 (omega arith))
+overflow_mul-g c = omega (arith, gh_lt c.args.f c.args.g (c.args.h - 1) c.requires.0 c.requires.1 (omega arith))
 
 pub overflow_mul-k : goal.overflow_mul-k
-overflow_mul-k c = omega (arith, hh-lt c.args.f c.args.g (c.args.h - 1) c.requires.0 c.requires.1 (omega arith))
+overflow_mul-k c = omega (arith, hh_lt c.args.f c.args.g (c.args.h - 1) c.requires.0 c.requires.1 (omega arith))
 
 pub overflow_add-k : goal.overflow_add-k
-overflow_add-k c = omega (arith, hh-lt c.args.f c.args.g (c.args.h - 1) c.requires.0 c.requires.1 (omega arith))
+overflow_add-k c = omega (arith, hh_lt c.args.f c.args.g (c.args.h - 1) c.requires.0 c.requires.1 (omega arith))
 
 pub returns-then-u-c : goal.returns-then-u-c
 returns-then-u-c c =

@@ -1,7 +1,7 @@
 -- `roots::start_of` meets its contract. Assumes nothing.
 use Rattle.std.proofs.Common.{ℕ, ◌+◌, ◌-◌, ◌*◌, ◌/◌, ◌^◌, ◌<◌, arith, rules}
 use lib.Bits.{bit_and, mask_lt}
-use Rattle.roots.proofs.Trial.{product_fits, bend-fits, rise-fits, two_fits, sum_fits}
+use Rattle.roots.proofs.Trial.{product_fits, bend_fits, rise_fits, two_fits, sum_fits}
 use Rattle.roots.proofs.start_of.Goals as goal
 
 abbrev u-of : ℕ → ℕ
@@ -14,13 +14,13 @@ pub overflow_sub-u : goal.overflow_sub-u
 overflow_sub-u c = omega (arith, mask_lt (c.args.b / 2 ^ 12) 32)
 
 pub overflow_mul-rise : goal.overflow_mul-rise
-overflow_mul-rise c = rise-fits c.parabola-p.result.0 0 (u-of c.args.b) (u-lt c.args.b)
+overflow_mul-rise c = rise_fits c.parabola-p.result.0 0 (u-of c.args.b) (u-lt c.args.b)
 
 pub overflow_mul-bend : goal.overflow_mul-bend
 overflow_mul-bend c = product_fits (u-lt c.args.b) (u-lt c.args.b)
 
 pub overflow_mul-bend-2 : goal.overflow_mul-bend-2
-overflow_mul-bend-2 c = bend-fits c.parabola-p.result.0 c.wide.result (u-of c.args.b) (u-lt c.args.b)
+overflow_mul-bend-2 c = bend_fits c.parabola-p.result.0 c.wide.result (u-of c.args.b) (u-lt c.args.b)
 
 pub overflow_add-result : goal.overflow_add-result
 overflow_add-result c = two_fits c.parabola-p.result.0 c.wide.result (u-of c.args.b) (u-lt c.args.b)

@@ -9,7 +9,7 @@ use borrow.Author.Rules.{rules}
 use Rattle.newtonian.specs.declared.Vector.{Vector}
 use Rattle.sheet_rows.specs.Kinds.{is_mesh}
 use Rattle.sheet.specs.Input.{SheetInput, input_of}
-use Rattle.sheet_body.proofs.Bodies.{mesh-checked, prism-checked}
+use Rattle.sheet_body.proofs.Bodies.{mesh_checked, prism_checked}
 use Rattle.sheet_body.proofs.check_body.Statement.{statement}
 use Rattle.sheet_body.proofs.check_body.Tie as tie
 
@@ -31,13 +31,13 @@ returns : tie.Need-returns
 returns c m b st =
     let start = entry (then1 c).before in
     let told = c.before.before.before.before.check-surface-with-mates.ensures in
-    mesh-checked (input start m b st) (sym (then1 c).before.is-mesh.ensures ∙ (then1 c).if1.true) told.0 told.1.0 told.1.1
+    mesh_checked (input start m b st) (sym (then1 c).before.is-mesh.ensures ∙ (then1 c).if1.true) told.0 told.1.0 told.1.1
 
 returns-2 : tie.Need-returns-2
 returns-2 c m b st =
     let start = entry c.before.before in
     let e = no-mesh c.before in
-    prism-checked (input start m b st) e (start.pre.1 e).1 start.args.work.now start.args.mates.now start.pre.2 c.check-prism.ensures
+    prism_checked (input start m b st) e (start.pre.1 e).1 start.args.work.now start.args.mates.now start.pre.2 c.check-prism.ensures
 
 pub check-body-spec : {M : Type 1} → statement M
 check-body-spec =

@@ -37,7 +37,7 @@ use denote.Triple.Table.{entered, cited}
 use denote.Triple.Walked.{says, Stays, stay_none, walk_of, Goes-none, Walks, ends_at, walked, walk_Meets}
 use denote.Exit.{yes}
 use denote.Triple.Clauses.{ensured, lasts}
-use Rattle.sheet_handle.specs.RowAfterRow.{nextRow}
+use Rattle.sheet_handle.specs.RowAfterRow.{next_row_of}
 use Rattle.sheet_handle.specs.declared.Rows.{Rows}
 use Rattle.sheet_handle.proofs.Apart.{B, D, L, vd, Own, passed, twice, apart}
 use Rattle.sheet_handle.specs.contracts.Rows as T
@@ -66,7 +66,7 @@ module _ {M : Type 1} {𝓤 : Ura M} (𝓛 : Logic 𝓤) (mem : Memory → SProp
   mach = T'.lowered d
 
   abbrev found : ℕ
-  found = nextRow d.sheet.now d.at
+  found = next_row_of d.sheet.now d.at
 
   -- the struct that is made
   abbrev made : ℕ → Rows

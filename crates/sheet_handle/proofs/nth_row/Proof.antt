@@ -2,7 +2,7 @@
 use mathlib.Core.Path.{sym, ◌∙◌}
 use native.Mathlib.Omega.{arith}
 use borrow.Author.Rules.{rules}
-use Rattle.sheet_handle.specs.Laws.{past-last, numbered}
+use Rattle.sheet_handle.specs.Laws.{past_last, numbered}
 use Rattle.sheet_handle.proofs.nth_row.Statement.{statement}
 use Rattle.sheet_handle.proofs.nth_row.Tie as tie
 
@@ -11,7 +11,7 @@ abbrev start : tie.After-row-count → tie.Start
 start c = c.before.before
 
 returns : tie.Need-returns
-returns c = sym (past-last (start c.before.before).args.sheet.now (start c.before.before).args.n (omega (arith, c.before.before.row_count.ensures)))
+returns c = sym (past_last (start c.before.before).args.sheet.now (start c.before.before).args.n (omega (arith, c.before.before.row_count.ensures)))
 
 returns-2 : tie.Need-returns-2
 returns-2 c = c.row-after.ensures ∙ numbered (start c.before.before).args.sheet.now (start c.before.before).args.n

@@ -35,7 +35,7 @@ use denote.Triple.Table.{entered, cited}
 use denote.Triple.Walked.{says, Stays, stay_none, walk_of, Goes-none, Walks, ends_at, walked, walk_Meets}
 use denote.Exit.{yes}
 use denote.Triple.Clauses.{ensured, lasts}
-use Rattle.sheet.specs.Checker.{rowPart}
+use Rattle.sheet.specs.Checker.{row_part}
 use Rattle.sheet_handle.specs.declared.Rows.{Rows}
 use Rattle.sheet_handle.proofs.Apart.{B, Own, passed, apart}
 use Rattle.sheet_handle.specs.contracts.Rows as T
@@ -64,7 +64,7 @@ module _ {M : Type 1} {𝓤 : Ura M} (𝓛 : Logic 𝓤) (mem : Memory → SProp
   mach = T'.lowered d
 
   abbrev found : List ℕ
-  found = rowPart d.sheet.now d.at
+  found = row_part d.sheet.now d.at
 
   -- the result's type
   abbrev R : RattleType

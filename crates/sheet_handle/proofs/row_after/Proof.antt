@@ -47,9 +47,9 @@ use denote.Triple.Walked.{says, Stays, stay_none, stay_none_slice, walk_of, Goes
 use denote.Exit.{yes}
 use denote.Triple.Clauses.{ensured, lasts}
 use Rattle.lists.proofs.Numbers.{below?}
-use Rattle.sheet.specs.Checker.{rowPart}
-use Rattle.sheet_handle.specs.RowAfterRow.{nextRow, afterMoves, partAfter}
-use Rattle.sheet_handle.specs.Laws.{no_move, after-move}
+use Rattle.sheet.specs.Checker.{row_part}
+use Rattle.sheet_handle.specs.RowAfterRow.{next_row_of, after_moves, part_after}
+use Rattle.sheet_handle.specs.Laws.{no_move, after_move}
 use Rattle.sheet_handle.specs.declared.Rows.{Rows}
 use Rattle.sheet_handle.proofs.Apart.{B}
 use Rattle.sheet_handle.specs.contracts.Rows as T
@@ -92,7 +92,7 @@ record Stand (s : Bor (List ℕ)) (n : ℕ) : Type 0 where
   u : Val
   within : i ≤ n
   same : r.sheet ≡ s
-  moved : r.at ≡ afterMoves s.now i
+  moved : r.at ≡ after_moves s.now i
 
 abbrev Nearer : (s : Bor (List ℕ)) (n : ℕ) → Stand s n → Stand s n → Type 0
 Nearer s n y x = n - y.i < n - x.i
@@ -165,7 +165,7 @@ module _ {M : Type 1} {𝓤 : Ura M} (𝓛 : Logic 𝓤) (mem : Memory → SProp
   to-next r u = (((κ, tt), (q, tt), tt, (r, tt), (u ∷ [], tt)), tt)
 
   abbrev Moved : Rows → Rows → Type 0
-  Moved r r' = (r'.sheet ≡ r.sheet) × (r'.at ≡ nextRow r.sheet.now r.at)
+  Moved r r' = (r'.sheet ≡ r.sheet) × (r'.at ≡ next_row_of r.sheet.now r.at)
 
   next-said : (r r' : Rows) → ent 𝓤 (ensured 𝓛 next.ended (next.clauses 𝓛 mem run) (κ, tt) (r, tt) tt r') (fact 𝓤 (Moved r r'))
   next-said r r' = ex_e 𝓤 _ (λ ws. snd∗ 𝓤 (sem 𝓛 (lasts next.ended (κ, tt) (r, tt) ws)) (fact 𝓤 (Moved r r')))
@@ -175,12 +175,12 @@ module _ {M : Type 1} {𝓤 : Ura M} (𝓛 : Logic 𝓤) (mem : Memory → SProp
   to_row r u = (((κ, tt), (q, tt), tt, (r, tt), (u ∷ [], tt)), tt)
 
   abbrev Found : Rows → R.Denot → Type 0
-  Found r t = t.now ≡ rowPart r.sheet.now r.at
+  Found r t = t.now ≡ row_part r.sheet.now r.at
 
   row-said : (r : Rows) (t : R.Denot) → ent 𝓤 (ensured 𝓛 row.ended (row.clauses 𝓛 mem run) (κ, tt) (r, tt) tt t) (fact 𝓤 (Found r t))
   row-said r t = ex_e 𝓤 _ (λ ws. snd∗ 𝓤 (sem 𝓛 (lasts row.ended (κ, tt) (r, tt) ws)) (fact 𝓤 (Found r t)))
 
-  exits : (t : R.Denot) (u : Val) → t.now ≡ partAfter s.now n → ent 𝓤 (⋆ 𝓛 (‵ (R.own t (u ∷ [])) ∷ Token ∷ ‵ Params ∷ [])) (Post u)
+  exits : (t : R.Denot) (u : Val) → t.now ≡ part_after s.now n → ent 𝓤 (⋆ 𝓛 (‵ (R.own t (u ∷ [])) ∷ Token ∷ ‵ Params ∷ [])) (Post u)
   exits t u e =
       qed 𝓛 (‵ (R.own t (u ∷ [])) ∷ Token ∷ ‵ Params ∷ []) ∵
       suffices ! _ (ends_at 𝓛 row-after.ended stayed (row-after.clauses 𝓛 mem run) (((κ, tt), (q, tt), tt, (s, (n, tt)), at), tt) u t (tt, (tt, tt)) (tt, (tt, tt))) $ says ! e $
@@ -237,7 +237,7 @@ module _ {M : Type 1} {𝓤 : Ura M} (𝓛 : Logic 𝓤) (mem : Memory → SProp
             u = u';
             within = omega arith;
             same = e.0 ∙ x.same;
-            moved = e.1 ∙ (ap (λ (z : Bor (List ℕ)). nextRow z.now x.r.at) x.same ∙ (ap (nextRow s.now) x.moved ∙ sym (after-move s.now x.i)));
+            moved = e.1 ∙ (ap (λ (z : Bor (List ℕ)). next_row_of z.now x.r.at) x.same ∙ (ap (next_row_of s.now) x.moved ∙ sym (after_move s.now x.i)));
           }
 
       -- the turn that leaves the loop, and the rest of the body
@@ -263,8 +263,8 @@ module _ {M : Type 1} {𝓤 : Ura M} (𝓛 : Logic 𝓤) (mem : Memory → SProp
           all : x.i ≡ n
           all = omega arith
 
-          found : (t : R.Denot) → Found x.r t → t.now ≡ partAfter s.now n
-          found t e = e ∙ (ap (λ (z : Bor (List ℕ)). rowPart z.now x.r.at) x.same ∙ ap (rowPart s.now) (x.moved ∙ ap (afterMoves s.now) all))
+          found : (t : R.Denot) → Found x.r t → t.now ≡ part_after s.now n
+          found t e = e ∙ (ap (λ (z : Bor (List ℕ)). row_part z.now x.r.at) x.same ∙ ap (row_part s.now) (x.moved ∙ ap (after_moves s.now) all))
 
       turns : (x : Stand s n) → Sq 𝓛 (At x) (runs C Λ En body.turn-1 (any_q (Turned x)))
       turns x = by-test (below? x.i n)

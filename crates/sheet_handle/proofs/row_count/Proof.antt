@@ -2,7 +2,7 @@
 use mathlib.Core.Path.{sym, ◌∙◌}
 use borrow.Author.Rules.{rules}
 use Rattle.sheet_readers.proofs.Opening.{opened}
-use Rattle.sheet_handle.specs.Laws.{counted, no-count}
+use Rattle.sheet_handle.specs.Laws.{counted, no_count}
 use Rattle.sheet_handle.proofs.row_count.Statement.{statement}
 use Rattle.sheet_handle.proofs.row_count.Tie as tie
 
@@ -11,7 +11,7 @@ abbrev start : tie.After-opening-cause → tie.Start
 start c = c.before.before
 
 returns : tie.Need-returns
-returns c = sym (no-count (start c.before.before).args.sheet.now _ (sym c.before.before.opening-cause.ensures ∙ c.enum_told.given.1))
+returns c = sym (no_count (start c.before.before).args.sheet.now _ (sym c.before.before.opening-cause.ensures ∙ c.enum_told.given.1))
 
 stations-requires : tie.Need-stations-requires
 stations-requires c κs = (opened (start c.before.before).args.sheet.now (sym c.before.before.opening-cause.ensures ∙ c.enum-told2.given.1)).trailer

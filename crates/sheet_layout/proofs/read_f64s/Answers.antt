@@ -6,7 +6,7 @@ use lib.ListN.{length, length-set}
 use lib.Seq.{sets}
 use lib.Ieee.{binary64, of_bits}
 use Rattle.sheet_layout.specs.LittleEndian.{unpack, doubles}
-use Rattle.sheet_layout.proofs.Turns.{read-turn, read-end}
+use Rattle.sheet_layout.proofs.Turns.{read_turn, read_end}
 use Rattle.sheet_layout.proofs.read_f64s.Goals as goal
 
 pub loop-i-init : goal.loop-i-init
@@ -16,9 +16,9 @@ loop-i-init c = (omega arith, refl, refl)
 pub loop-i-preserved : goal.loop-i-preserved
 loop-i-preserved c =
     let a = c.args in
-    (omega arith, simp length-set (omega arith), read-turn (of_bits binary64) 8 a.xs.now a.s.now a.at c.loop-i.i _ c.loop-i.invariant.2 c.f64_at.ensures)
+    (omega arith, simp length-set (omega arith), read_turn (of_bits binary64) 8 a.xs.now a.s.now a.at c.loop-i.i _ c.loop-i.invariant.2 c.f64_at.ensures)
 
 pub returns : goal.returns
 returns c =
     let a = c.args in
-    read-end (of_bits binary64) 8 a.xs.now a.s.now a.at c.loop-i.i (omega arith) c.loop-i.invariant.2
+    read_end (of_bits binary64) 8 a.xs.now a.s.now a.at c.loop-i.i (omega arith) c.loop-i.invariant.2

@@ -6,7 +6,7 @@ use lib.ListN.{length, length-set}
 use lib.Seq.{sets}
 use lib.Ieee.{binary64, of_bits}
 use Rattle.sheet_layout.specs.LittleEndian.{unpack, doubles}
-use Rattle.sheet_layout.proofs.Turns.{read-turn, read-end}
+use Rattle.sheet_layout.proofs.Turns.{read_turn, read_end}
 use Rattle.sheet_layout.proofs.read_f64s.Given as goal
 
 abbrev pub invariant-loop-i : goal.invariant-loop-i

@@ -6,7 +6,7 @@ use native.Mathlib.Omega.{arith}
 use lib.ListN.{length, length-set}
 use lib.Seq.{sets}
 use Rattle.sheet_layout.specs.LittleEndian.{unpack}
-use Rattle.sheet_layout.proofs.Turns.{read-turn, read-end, map_id}
+use Rattle.sheet_layout.proofs.Turns.{read_turn, read_end, map_id}
 use Rattle.sheet_layout.proofs.read_u32s.Goals as goal
 
 pub loop-i-init : goal.loop-i-init
@@ -16,9 +16,9 @@ loop-i-init c = (omega arith, refl, refl)
 pub loop-i-preserved : goal.loop-i-preserved
 loop-i-preserved c =
     let a = c.args in
-    (omega arith, simp length-set (omega arith), read-turn (λ x. x) 4 a.xs.now a.s.now a.at c.loop-i.i _ c.loop-i.invariant.2 c.u32_at.ensures)
+    (omega arith, simp length-set (omega arith), read_turn (λ x. x) 4 a.xs.now a.s.now a.at c.loop-i.i _ c.loop-i.invariant.2 c.u32_at.ensures)
 
 pub returns : goal.returns
 returns c =
     let a = c.args in
-    read-end (λ x. x) 4 a.xs.now a.s.now a.at c.loop-i.i (omega arith) c.loop-i.invariant.2 ∙ map_id _
+    read_end (λ x. x) 4 a.xs.now a.s.now a.at c.loop-i.i (omega arith) c.loop-i.invariant.2 ∙ map_id _

@@ -6,7 +6,7 @@ use native.Mathlib.Omega.{arith}
 use lib.ListN.{length, length-set}
 use lib.Seq.{sets}
 use Rattle.sheet_layout.specs.LittleEndian.{unpack}
-use Rattle.sheet_layout.proofs.Turns.{read-turn, read-end, map_id}
+use Rattle.sheet_layout.proofs.Turns.{read_turn, read_end, map_id}
 use Rattle.sheet_layout.proofs.read_u32s.Given as goal
 
 abbrev pub invariant-loop-i : goal.invariant-loop-i

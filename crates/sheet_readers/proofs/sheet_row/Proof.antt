@@ -1,7 +1,7 @@
 -- `sheet_readers::sheet_row` meets its contract. Assumes nothing.
 use mathlib.Core.Path.{sym, ◌∙◌}
 use native.Mathlib.Omega.{arith}
-use Rattle.sheet_readers.proofs.Opening.{opened, no_row, past-rows, row_from}
+use Rattle.sheet_readers.proofs.Opening.{opened, no_row, past_rows, row_from}
 use borrow.Author.Rules.{rules}
 use Rattle.sheet_readers.proofs.sheet_row.Statement.{statement}
 use Rattle.sheet_readers.proofs.sheet_row.Tie as tie
@@ -25,7 +25,7 @@ stations-requires c κs = (opened (opening-cause c).before.before.args.sheet.now
 returns-2 : tie.Need-returns-2
 returns-2 c =
     let start = (opening-cause c.before.before.before).before.before in
-    past-rows start.args.sheet.now start.args.i (sym (opening-cause c.before.before.before).opening-cause.ensures ∙ c.before.before.before.enum-told2.given.1) (omega arith)
+    past_rows start.args.sheet.now start.args.i (sym (opening-cause c.before.before.before).opening-cause.ensures ∙ c.before.before.before.enum-told2.given.1) (omega arith)
 
 row-start-requires : tie.Need-row-start-requires
 row-start-requires c κs = opened (opening-cause c.before.before).before.before.args.sheet.now (sym (opening-cause c.before.before).opening-cause.ensures ∙ c.before.before.enum-told2.given.1)

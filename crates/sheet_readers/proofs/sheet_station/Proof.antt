@@ -2,7 +2,7 @@
 use mathlib.Core.Path.{sym, ◌∙◌}
 use native.Mathlib.Omega.{arith}
 use Rattle.sheet_readers.proofs.Opening.{opened}
-use Rattle.sheet_readers.proofs.Handed.{no_station, past-stations, station-from}
+use Rattle.sheet_readers.proofs.Handed.{no_station, past_stations, station-from}
 use borrow.Author.Rules.{rules}
 use Rattle.sheet_readers.proofs.sheet_station.Statement.{statement}
 use Rattle.sheet_readers.proofs.sheet_station.Tie as tie
@@ -26,7 +26,7 @@ stations-requires c κs = (opened (opening-cause c).before.before.args.sheet.now
 returns-2 : tie.Need-returns-2
 returns-2 c =
     let start = (opening-cause c.before.before.before).before.before in
-    past-stations start.args.sheet.now (sym (opening-cause c.before.before.before).opening-cause.ensures ∙ c.before.before.before.enum-told2.given.1) start.args.i (omega arith)
+    past_stations start.args.sheet.now (sym (opening-cause c.before.before.before).opening-cause.ensures ∙ c.before.before.before.enum-told2.given.1) start.args.i (omega arith)
 
 station-start-requires : tie.Need-station-start-requires
 station-start-requires c κs = opened (opening-cause c.before.before).before.before.args.sheet.now (sym (opening-cause c.before.before).opening-cause.ensures ∙ c.before.before.enum-told2.given.1)

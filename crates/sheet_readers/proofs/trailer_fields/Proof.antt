@@ -1,11 +1,11 @@
 -- `sheet_readers::trailer_fields` meets its contract. Assumes nothing.
-use Rattle.sheet_readers.specs.Parts.{trailerFields}
+use Rattle.sheet_readers.specs.Parts.{trailer_fields}
 use borrow.Author.Rules.{rules}
 use Rattle.sheet_readers.proofs.trailer_fields.Statement.{statement}
 use Rattle.sheet_readers.proofs.trailer_fields.Tie as tie
 
 returns : tie.Need-returns
-unfolding trailerFields
+unfolding trailer_fields
 returns c =
     let fourth = c.before.before.before in
     let first = fourth.before.before.before in

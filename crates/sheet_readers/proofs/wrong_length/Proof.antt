@@ -1,6 +1,6 @@
 -- `sheet_readers::wrong_length` meets its contract. Assumes nothing.
 use native.Mathlib.Omega.{arith}
-use Rattle.sheet_readers.proofs.Opening.{short, wrong-pointer, not-whole, right-length}
+use Rattle.sheet_readers.proofs.Opening.{short, wrong_pointer, not-whole, right-length}
 use borrow.Author.Rules.{rules}
 use Rattle.sheet_readers.proofs.wrong_length.Statement.{statement}
 use Rattle.sheet_readers.proofs.wrong_length.Tie as tie
@@ -14,7 +14,7 @@ returns c = short c.before.before.args.sheet.now c.if1.true
 returns-2 : tie.Need-returns-2
 returns-2 c =
     let long = else1 c.before in
-    wrong-pointer long.before.before.args.sheet.now c.before.before.pointer-of.result long.if1.left (omega arith) _ c.before.pointer.ensures c.if2.true
+    wrong_pointer long.before.before.args.sheet.now c.before.before.pointer-of.result long.if1.left (omega arith) _ c.before.pointer.ensures c.if2.true
 
 returns-3 : tie.Need-returns-3
 returns-3 c =

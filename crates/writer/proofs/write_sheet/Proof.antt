@@ -10,7 +10,7 @@ use Rattle.sheet.specs.Input.{SheetInput, input_of}
 use Rattle.sheet.specs.Writer.{out_of_limits}
 use Rattle.sheet.specs.Promises.{Typed}
 use Rattle.writer_causes.specs.LengthsCause.{lengths_cause}
-use Rattle.writer.proofs.Stages.{by-counts, by-limits, later}
+use Rattle.writer.proofs.Stages.{by_counts, by_limits, later}
 use Rattle.writer.proofs.write_sheet.Statement.{statement}
 use Rattle.writer.proofs.write_sheet.Tie as tie
 
@@ -59,13 +59,13 @@ returns : tie.Need-returns
 returns c =
     let t = c.before.before.before in
     let st = start t in
-    by-counts (input st) (typed t) (work st) (out st) c.before.counts.given.0.0 (counts t (Refused c.before.counts.given.0.0) c.before.counts.given.1)
+    by_counts (input st) (typed t) (work st) (out st) c.before.counts.given.0.0 (counts t (Refused c.before.counts.given.0.0) c.before.counts.given.1)
 
 returns-2 : tie.Need-returns-2
 returns-2 c =
     let t = (enum_told c).before.before in
     let st = start t in
-    by-limits (input st) (typed t) (work st) (out st) c.before.numbers.given.0.0 (counts t None (enum_told c).enum_told.given.1) (numbers c.before.before.before (Refused c.before.numbers.given.0.0) c.before.numbers.given.1)
+    by_limits (input st) (typed t) (work st) (out st) c.before.numbers.given.0.0 (counts t None (enum_told c).enum_told.given.1) (numbers c.before.before.before (Refused c.before.numbers.given.0.0) c.before.numbers.given.1)
 
 returns-3 : tie.Need-returns-3
 returns-3 c =

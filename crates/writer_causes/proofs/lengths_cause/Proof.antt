@@ -8,7 +8,7 @@ use borrow.Author.Tests.{not-true, not-false}
 use Rattle.sheet_rows.specs.Kinds.{within_counts}
 use Rattle.sheet_rows.proofs.Counts.{counts_each}
 use Rattle.writer_causes.specs.LengthsCause.{well_formed}
-use Rattle.writer_causes.proofs.Counts.{not-well-formed, not-few, short-work, short-out, counted}
+use Rattle.writer_causes.proofs.Counts.{not-well_formed, not-few, short_work, short_out, counted}
 use Rattle.writer_causes.proofs.lengths_cause.Statement.{statement}
 use Rattle.writer_causes.proofs.lengths_cause.Tie as tie
 
@@ -25,7 +25,7 @@ few : (c : tie.Else2) → within_counts ((start c).args.verts / 3) ((start c).ar
 few c = sym c.before.within-counts.ensures ∙ not-false _ c.if2.false
 
 returns : tie.Need-returns
-returns c = let a = c.before.before.args in not-well-formed a.work a.out a.kind a.verts a.faces a.stations (sym c.before.well-formed-2.ensures ∙ not-true _ c.if1.true)
+returns c = let a = c.before.before.args in not-well_formed a.work a.out a.kind a.verts a.faces a.stations (sym c.before.well-formed-2.ensures ∙ not-true _ c.if1.true)
 
 returns-2 : tie.Need-returns-2
 returns-2 c =
@@ -37,14 +37,14 @@ returns-3 : tie.Need-returns-3
 returns-3 c =
     let e = c.before.before.before in
     let a = e.before.before.args in
-    short-work a.work a.out a.kind a.verts a.faces a.stations (formed e) (few c.before) (omega arith)
+    short_work a.work a.out a.kind a.verts a.faces a.stations (formed e) (few c.before) (omega arith)
 
 returns-4 : tie.Need-returns-4
 returns-4 c =
     let g = c.before.before.before in
     let e = g.before.before in
     let a = e.before.before.args in
-    short-out a.work a.out a.kind a.verts a.faces a.stations (formed e) (few g) (omega arith) (omega (arith, c.before.sheet_length.ensures))
+    short_out a.work a.out a.kind a.verts a.faces a.stations (formed e) (few g) (omega arith) (omega (arith, c.before.sheet_length.ensures))
 
 returns-5 : tie.Need-returns-5
 returns-5 c =

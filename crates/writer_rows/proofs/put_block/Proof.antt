@@ -10,7 +10,7 @@ use Rattle.refusals.specs.declared.Cause.TheVariants.{None, Refused}
 use Rattle.refusals.proofs.Causes.{more}
 use Rattle.sheet_rows.specs.Kinds.{row_width}
 use Rattle.sheet.specs.Input.{SheetInput, input_of}
-use Rattle.sheet.specs.Writer.{stationCause}
+use Rattle.sheet.specs.Writer.{station_cause}
 use Rattle.writer_rows.specs.Rows.{RowPut, FieldsAt, RowsUpTo}
 use Rattle.writer_rows.proofs.RowLaws.{not_none, next, row_written, row-left, up_to-refused}
 use Rattle.writer_rows.proofs.put_block.Statement.{statement}
@@ -79,7 +79,7 @@ loop-again c =
           let z : i + 1 ≡ a.first + (at.loop.j + 1) = omega arith in
           subst (λ (k : ℕ). RowsUpTo s a.at k o done.put-row.new.1.1.1.1.1.0) z
           (record {
-            none = more i (stationCause s) w.none (sym h.cause ∙ told);
+            none = more i (station_cause s) w.none (sym h.cause ∙ told);
             bytes = next s i w.none o a.at (a.at + at.before.row-length.result * i) (ap (λ (x : ℕ). a.at + x) (place at)) w.bytes (row_written s i _ h told);
           }),
     )

@@ -12,7 +12,7 @@ use borrow.Fn.Kinds.{In}
 use borrow.Fn.PlainCycle.{Measures, is, falls, and}
 use Rattle.lists.proofs.Numbers.{below?, both_within, not_both_within}
 use Rattle.mesh_orders.specs.Edges.{max_vertices}
-use Rattle.sheet.specs.Checker.{verticesIn, facesIn}
+use Rattle.sheet.specs.Checker.{vertices_in, faces_in}
 use Rattle.sheet_readers.specs.Opened.{Opened}
 use Rattle.checker_rooms.proofs.rooms.from_room.Reads as from-room
 use Rattle.checker_rooms.proofs.rooms.from_room.Kinds as from-room-kinds
@@ -37,13 +37,13 @@ abbrev from-room-below : ℕ → In 1 from-room-kinds.ps
 from-room-below t = and 1 from-room-kinds.ps (falls 1 from-room-kinds.ps ◌<◌ μ-from-room t) from-room.Pre
 
 -- the largest room holds every body
-not-largest : (b : List ℕ) (n : ℕ) → Opened b → (leb (verticesIn b) n && leb (facesIn b) (2 * n)) ≡ false → n < max_vertices
+not-largest : (b : List ℕ) (n : ℕ) → Opened b → (leb (vertices_in b) n && leb (faces_in b) (2 * n)) ≡ false → n < max_vertices
 not-largest b n h e =
-    ⊎_elim (λ l. l) (λ g. absurd (not_both_within (verticesIn b) (facesIn b) n (2 * n) e (omega (arith, h.vertices)) (omega (arith, h.faces)))) (below? n max_vertices)
+    ⊎_elim (λ l. l) (λ g. absurd (not_both_within (vertices_in b) (faces_in b) n (2 * n) e (omega (arith, h.vertices)) (omega (arith, h.faces)))) (below? n max_vertices)
 
 -- the room of size m holds this one
-held : (b : List ℕ) (n m : ℕ) → n ≡ m → Opened b → (leb (verticesIn b) n && leb (facesIn b) (2 * n)) ≡ true → Opened b × (verticesIn b ≤ m) × (facesIn b ≤ 2 * m)
-held b n m q h e = let w = both_within (verticesIn b) (facesIn b) n (2 * n) e in (h, omega (arith, w.0), omega (arith, w.1))
+held : (b : List ℕ) (n m : ℕ) → n ≡ m → Opened b → (leb (vertices_in b) n && leb (faces_in b) (2 * n)) ≡ true → Opened b × (vertices_in b ≤ m) × (faces_in b ≤ 2 * m)
+held b n m q h e = let w = both_within (vertices_in b) (faces_in b) n (2 * n) e in (h, omega (arith, w.0), omega (arith, w.1))
 
 -- what the calls ask and tell
 abbrev claims : ℕ → from-room-lts.Claims

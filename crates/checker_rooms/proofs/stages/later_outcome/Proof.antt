@@ -2,9 +2,9 @@
 use mathlib.Core.Path.{◌≡◌, sym, ◌∙◌}
 use borrow.Author.Rules.{rules}
 use Rattle.refusals.specs.declared.Cause.TheVariants.{None}
-use Rattle.checker_lists.specs.Stages.{listsCause, volumeCause}
-use Rattle.checker_lists.proofs.Lists.{now-ready}
-use Rattle.checker_rooms.proofs.InTurn.{lists-first, volume-next, stations-last}
+use Rattle.checker_lists.specs.Stages.{lists_cause, volume_cause}
+use Rattle.checker_lists.proofs.Lists.{now_ready}
+use Rattle.checker_rooms.proofs.InTurn.{lists_first, volume-next, stations-last}
 use Rattle.checker_rooms.proofs.stages.later_outcome.Statement.{statement}
 use Rattle.checker_rooms.proofs.stages.later_outcome.Tie as tie
 
@@ -19,26 +19,26 @@ read c = c.before.before.before.before.before.before
 abbrev passed : tie.After-enum-told → tie.After-lists-cause
 passed c = read c.before.before
 
-none : (c : tie.After-enum-told) → listsCause (start (passed c)).args.sheet.now ≡ None
+none : (c : tie.After-enum-told) → lists_cause (start (passed c)).args.sheet.now ≡ None
 none c = sym (passed c).lists-cause.ensures.0 ∙ c.enum_told.given.1
 
 -- where the volume is not refused
 abbrev measured : tie.After-volume-cause → tie.After-enum-told
 measured c = c.before.before.before
 
-whole : (c : tie.After-enum-told2) → volumeCause (start (passed (measured c.before.before))).args.sheet.now ≡ None
+whole : (c : tie.After-enum-told2) → volume_cause (start (passed (measured c.before.before))).args.sheet.now ≡ None
 whole c = sym c.before.before.volume-cause.ensures ∙ c.enum-told2.given.1
 
 returns : tie.Need-returns
 returns c =
     let told = c.before in
     let l = read told.before.before.before in
-    c.refused-by.ensures ∙ lists-first (start l).args.sheet.now _ (sym l.lists-cause.ensures.0 ∙ told.before.lists.given.1)
+    c.refused-by.ensures ∙ lists_first (start l).args.sheet.now _ (sym l.lists-cause.ensures.0 ∙ told.before.lists.given.1)
 
 volume-cause-requires : tie.Need-volume-cause-requires
 volume-cause-requires c κs =
     let told = c.before.before in
-    now-ready _ _ _ _ (passed told).lists-cause.ensures.1 (none told)
+    now_ready _ _ _ _ (passed told).lists-cause.ensures.1 (none told)
 
 returns-2 : tie.Need-returns-2
 returns-2 c =

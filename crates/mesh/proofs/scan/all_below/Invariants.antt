@@ -8,7 +8,7 @@ use Rattle.refusals.specs.declared.Refusal.TheVariants.{NoSuchVertex}
 use Rattle.refusals.specs.declared.Cause.TheVariants.{None}
 use Rattle.refusals.specs.Causes.{unless, first_of}
 use Rattle.mesh.specs.Check.{names_vertex, no_such_vertex}
-use Rattle.mesh.proofs.Scans.{scan-start, all_more, scan-end}
+use Rattle.mesh.proofs.Scans.{scan_start, all_more, scan_end}
 use Rattle.mesh.proofs.scan.all_below.Given as goal
 
 abbrev pub invariant-loop-i : goal.invariant-loop-i

@@ -7,11 +7,11 @@ use lib.ListN.{length}
 use Rattle.refusals.specs.declared.Refusal.TheVariants.{OutOfLimits}
 use Rattle.refusals.specs.Causes.{unless, first_of}
 use Rattle.mesh.specs.Check.{in_limits, out_of_limits}
-use Rattle.mesh.proofs.Scans.{scan-start, noted_more}
+use Rattle.mesh.proofs.Scans.{scan_start, noted_more}
 use Rattle.mesh.proofs.scan.all_within_limits.Goals as goal
 
 pub loop-i-init : goal.loop-i-init
-loop-i-init c = let v = c.args.numbers.now in (omega arith, sym (scan-start (length v) (in_limits v) (λ i. OutOfLimits)))
+loop-i-init c = let v = c.args.numbers.now in (omega arith, sym (scan_start (length v) (in_limits v) (λ i. OutOfLimits)))
 
 pub loop-i-preserved : goal.loop-i-preserved
 loop-i-preserved c =

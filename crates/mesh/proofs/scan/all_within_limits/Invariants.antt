@@ -7,7 +7,7 @@ use lib.ListN.{length}
 use Rattle.refusals.specs.declared.Refusal.TheVariants.{OutOfLimits}
 use Rattle.refusals.specs.Causes.{unless, first_of}
 use Rattle.mesh.specs.Check.{in_limits, out_of_limits}
-use Rattle.mesh.proofs.Scans.{scan-start, noted_more}
+use Rattle.mesh.proofs.Scans.{scan_start, noted_more}
 use Rattle.mesh.proofs.scan.all_within_limits.Given as goal
 
 abbrev pub invariant-loop-i : goal.invariant-loop-i

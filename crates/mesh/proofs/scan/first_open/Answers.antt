@@ -11,14 +11,14 @@ use Rattle.refusals.specs.Causes.{unless, first_of}
 use Rattle.mesh_orders.specs.Order.{Uses}
 use Rattle.mesh_orders.specs.OrderLaws.{order-length, order-uses}
 use Rattle.mesh.specs.Check.{reverse_occurs, open_at, open_edge}
-use Rattle.mesh.proofs.Scans.{scan-start, scan-more, scan-stop, scan-end}
+use Rattle.mesh.proofs.Scans.{scan_start, scan_more, scan_stop, scan_end}
 use Rattle.mesh.proofs.scan.first_open.Goals as goal
 
 pub loop-i-init : goal.loop-i-init
 loop-i-init c =
     let f = c.args.faces.now in
     let o = c.args.order.now in
-    (omega arith, scan-start (length f) (reverse_occurs f o) (open_at f o))
+    (omega arith, scan_start (length f) (reverse_occurs f o) (open_at f o))
 
 pub has_reverse-requires : goal.has_reverse-requires
 has_reverse-requires c =
@@ -43,7 +43,7 @@ returns-then-not-has_reverse c =
     let f = c.args.faces.now in
     let o = c.args.order.now in
     ap₂ (λ (a b : ℕ). Refused (Open a b)) c.start.ensures c.end.ensures
-    ∙ scan-stop (length f) (reverse_occurs f o) (open_at f o) c.loop-i.i (omega (arith, size)) c.loop-i.invariant.1
+    ∙ scan_stop (length f) (reverse_occurs f o) (open_at f o) c.loop-i.i (omega (arith, size)) c.loop-i.invariant.1
     (sym c.has_reverse.ensures ∙ c.if-not-has_reverse.true)
     ∙ ap (λ (l : List ℕ). first_of (length f) (λ i. unless (reverse_occurs f l i) (open_at f l i))) c.requires.1
 
@@ -52,7 +52,7 @@ loop-i-preserved c =
     let f = c.args.faces.now in
     let o = c.args.order.now in (
       omega arith,
-      scan-more (length f) (reverse_occurs f o) (open_at f o) c.loop-i.i c.loop-i.invariant.1
+      scan_more (length f) (reverse_occurs f o) (open_at f o) c.loop-i.i c.loop-i.invariant.1
           (sym c.has_reverse.ensures ∙ c.if-not-has_reverse.false),
     )
 
@@ -62,7 +62,7 @@ returns c =
     let size : length c.args.order.now ≡ length c.args.faces.now = ap length c.requires.1 ∙ order-length c.args.faces.now in
     let f = c.args.faces.now in
     let o = c.args.order.now in
-    scan-end (length f) (reverse_occurs f o) (open_at f o) c.loop-i.i (omega (arith, size)) (omega (arith, size)) c.loop-i.invariant.1
+    scan_end (length f) (reverse_occurs f o) (open_at f o) c.loop-i.i (omega (arith, size)) (omega (arith, size)) c.loop-i.invariant.1
     ∙ ap (λ (l : List ℕ). first_of (length f) (λ i. unless (reverse_occurs f l i) (open_at f l i))) c.requires.1
 
 pub bounds-guesses-i : goal.bounds-guesses-i

@@ -11,7 +11,7 @@ use Rattle.refusals.specs.Causes.{unless, first_of}
 use Rattle.mesh_orders.specs.Order.{Uses}
 use Rattle.mesh_orders.specs.OrderLaws.{order-length, order-uses}
 use Rattle.mesh.specs.Check.{reverse_occurs, open_at, open_edge}
-use Rattle.mesh.proofs.Scans.{scan-start, scan-more, scan-stop, scan-end}
+use Rattle.mesh.proofs.Scans.{scan_start, scan_more, scan_stop, scan_end}
 use Rattle.mesh.proofs.scan.first_open.Given as goal
 
 abbrev pub invariant-loop-i : goal.invariant-loop-i

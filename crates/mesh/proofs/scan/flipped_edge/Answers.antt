@@ -13,8 +13,8 @@ use Rattle.mesh_orders.specs.Edges.{from, to, edge}
 use Rattle.mesh_orders.specs.Order.{order_list, Uses}
 use Rattle.mesh_orders.specs.OrderLaws.{order-length, order-uses}
 use Rattle.mesh.specs.Check.{occurs_once, flipped_at, flipped_edge}
-use Rattle.mesh.proofs.Scans.{scan-stop}
-use Rattle.mesh.proofs.Flips.{differ-none, same-twice}
+use Rattle.mesh.proofs.Scans.{scan_stop}
+use Rattle.mesh.proofs.Flips.{differ_none, same_twice}
 use Rattle.mesh.proofs.scan.flipped_edge.Goals as goal
 
 pub loop-i-init : goal.loop-i-init
@@ -51,9 +51,9 @@ returns-then-edge c =
     let same : get_or c.args.order.now i 0 ≡ get_or o i 0 = ap (λ (l : List ℕ). get_or l i 0) c.requires.1 in
     let next : get_or c.args.order.now (i + 1) 0 ≡ get_or o (i + 1) 0 = ap (λ (l : List ℕ). get_or l (i + 1) 0) c.requires.1 in
     ap₂ (λ (a b : ℕ). Refused (Flipped a b)) (c.start.ensures ∙ ap (from f) same) (c.end.ensures ∙ ap (to f) same)
-    ∙ scan-stop (length f) (occurs_once f o) (flipped_at f o) i
-    (omega (arith, size)) (differ-none f c.requires.0 i i (omega (arith, size)) (inl (omega arith)) differ)
-    (lt-leb _ 1 (same-twice f c.requires.0 i (omega (arith, size))
+    ∙ scan_stop (length f) (occurs_once f o) (flipped_at f o) i
+    (omega (arith, size)) (differ_none f c.requires.0 i i (omega (arith, size)) (inl (omega arith)) differ)
+    (lt-leb _ 1 (same_twice f c.requires.0 i (omega (arith, size))
     (sym (ap (edge f) same) ∙ sym c.edge.ensures ∙ c.if-edge.true ∙ c.edge-in-loop-i.ensures ∙ ap (edge f) next)))
 
 pub loop-i-preserved : goal.loop-i-preserved
@@ -73,4 +73,4 @@ returns c =
     let size : length c.args.order.now ≡ length c.args.faces.now = ap length c.requires.1 ∙ order-length c.args.faces.now in
     let differ : (j : ℕ) → j < c.loop-i.i → edge c.args.faces.now (get_or (order_list c.args.faces.now) j 0) ≡ edge c.args.faces.now (get_or (order_list c.args.faces.now) (j + 1) 0) → ⊥ = λ j l e. c.loop-i.invariant.1 j l (subst (λ (o : List ℕ). edge c.args.faces.now (get_or o j 0) ≡ edge c.args.faces.now (get_or o (j + 1) 0)) (sym c.requires.1) e) in
     let f = c.args.faces.now in
-    sym (differ-none f c.requires.0 c.loop-i.i (length f) (omega arith) (inr (omega (arith, size))) differ)
+    sym (differ_none f c.requires.0 c.loop-i.i (length f) (omega arith) (inr (omega (arith, size))) differ)

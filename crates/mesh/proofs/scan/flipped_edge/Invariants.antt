@@ -13,8 +13,8 @@ use Rattle.mesh_orders.specs.Edges.{from, to, edge}
 use Rattle.mesh_orders.specs.Order.{order_list, Uses}
 use Rattle.mesh_orders.specs.OrderLaws.{order-length, order-uses}
 use Rattle.mesh.specs.Check.{occurs_once, flipped_at, flipped_edge}
-use Rattle.mesh.proofs.Scans.{scan-stop}
-use Rattle.mesh.proofs.Flips.{differ-none, same-twice}
+use Rattle.mesh.proofs.Scans.{scan_stop}
+use Rattle.mesh.proofs.Flips.{differ_none, same_twice}
 use Rattle.mesh.proofs.scan.flipped_edge.Given as goal
 
 abbrev pub invariant-loop-i : goal.invariant-loop-i

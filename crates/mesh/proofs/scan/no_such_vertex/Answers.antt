@@ -8,7 +8,7 @@ use Rattle.refusals.specs.declared.Refusal.TheVariants.{NoSuchVertex}
 use Rattle.refusals.specs.declared.Cause.TheVariants.{None}
 use Rattle.refusals.specs.Causes.{unless, first_of}
 use Rattle.mesh.specs.Check.{names_vertex, no_such_vertex}
-use Rattle.mesh.proofs.Scans.{scan-start, scan-more, scan-stop, scan-end}
+use Rattle.mesh.proofs.Scans.{scan_start, scan_more, scan_stop, scan_end}
 use Rattle.mesh.proofs.scan.no_such_vertex.Goals as goal
 
 pub returns-then-all_name_vertices : goal.returns-then-all_name_vertices
@@ -17,24 +17,24 @@ returns-then-all_name_vertices c = sym (c.all_name_vertices.ensures c.if-all_nam
 pub loop-i-init : goal.loop-i-init
 loop-i-init c =
     let f = c.args.faces.now in
-    (omega arith, scan-start (length f) (names_vertex c.args.vertices f) (λ i. NoSuchVertex (i / 3)))
+    (omega arith, scan_start (length f) (names_vertex c.args.vertices f) (λ i. NoSuchVertex (i / 3)))
 
 pub returns-then-vertices-faces : goal.returns-then-vertices-faces
 unfolding no_such_vertex
 returns-then-vertices-faces c =
     let f = c.args.faces.now in
-    scan-stop (length f) (names_vertex c.args.vertices f) (λ i. NoSuchVertex (i / 3)) c.loop-i.i (omega arith) c.loop-i.invariant.1 (le-ltb _ _ c.if-vertices-faces.true)
+    scan_stop (length f) (names_vertex c.args.vertices f) (λ i. NoSuchVertex (i / 3)) c.loop-i.i (omega arith) c.loop-i.invariant.1 (le-ltb _ _ c.if-vertices-faces.true)
 
 pub loop-i-preserved : goal.loop-i-preserved
 loop-i-preserved c =
     let f = c.args.faces.now in
-    (omega arith, scan-more (length f) (names_vertex c.args.vertices f) (λ i. NoSuchVertex (i / 3)) c.loop-i.i c.loop-i.invariant.1 (lt-ltb _ _ c.if-vertices-faces.false))
+    (omega arith, scan_more (length f) (names_vertex c.args.vertices f) (λ i. NoSuchVertex (i / 3)) c.loop-i.i c.loop-i.invariant.1 (lt-ltb _ _ c.if-vertices-faces.false))
 
 pub returns : goal.returns
 unfolding no_such_vertex
 returns c =
     let f = c.args.faces.now in
-    scan-end (length f) (names_vertex c.args.vertices f) (λ i. NoSuchVertex (i / 3)) c.loop-i.i (omega arith) (omega arith) c.loop-i.invariant.1
+    scan_end (length f) (names_vertex c.args.vertices f) (λ i. NoSuchVertex (i / 3)) c.loop-i.i (omega arith) (omega arith) c.loop-i.invariant.1
 
 pub all_name_vertices-requires : goal.all_name_vertices-requires
 all_name_vertices-requires c = tt

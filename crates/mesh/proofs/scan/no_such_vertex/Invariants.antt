@@ -8,7 +8,7 @@ use Rattle.refusals.specs.declared.Refusal.TheVariants.{NoSuchVertex}
 use Rattle.refusals.specs.declared.Cause.TheVariants.{None}
 use Rattle.refusals.specs.Causes.{unless, first_of}
 use Rattle.mesh.specs.Check.{names_vertex, no_such_vertex}
-use Rattle.mesh.proofs.Scans.{scan-start, scan-more, scan-stop, scan-end}
+use Rattle.mesh.proofs.Scans.{scan_start, scan_more, scan_stop, scan_end}
 use Rattle.mesh.proofs.scan.no_such_vertex.Given as goal
 
 abbrev pub invariant-loop-i : goal.invariant-loop-i

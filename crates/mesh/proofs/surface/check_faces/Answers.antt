@@ -8,7 +8,7 @@ use Rattle.refusals.specs.declared.Cause.{Cause}
 use Rattle.refusals.specs.Causes.{or_else}
 use Rattle.mesh.specs.Surface.{face_count, is_zero, add_face_volume, volume}
 use Rattle.mesh.specs.Check.{inverted, faces_cause, solid_of}
-use Rattle.mesh.proofs.Faces.{Normals, normals-start, normals-more, normals-stop, normals-end, sum-end}
+use Rattle.mesh.proofs.Faces.{Normals, normals-start, normals-more, normals_stop, normals-end, sum-end}
 use Rattle.mesh.proofs.surface.check_faces.Goals as goal
 
 pub loop-k-init : goal.loop-k-init
@@ -23,7 +23,7 @@ returns-then-is_zero c =
     let v = c.args.verts.now in
     let f = c.args.faces.now in
     ap (λ (d : Cause). solid_of (or_else d (inverted v f)) (volume v f))
-    (normals-stop v f c.loop-k.k (omega arith) c.loop-k.invariant.1 (ap is_zero (sym c.normal.ensures) ∙ sym c.is_zero.ensures ∙ c.if-is_zero.true))
+    (normals_stop v f c.loop-k.k (omega arith) c.loop-k.invariant.1 (ap is_zero (sym c.normal.ensures) ∙ sym c.is_zero.ensures ∙ c.if-is_zero.true))
 
 pub loop-k-preserved : goal.loop-k-preserved
 loop-k-preserved c =

@@ -8,7 +8,7 @@ use Rattle.refusals.specs.declared.Cause.{Cause}
 use Rattle.refusals.specs.Causes.{or_else}
 use Rattle.mesh.specs.Surface.{face_count, is_zero, add_face_volume, volume}
 use Rattle.mesh.specs.Check.{inverted, faces_cause, solid_of}
-use Rattle.mesh.proofs.Faces.{Normals, normals-start, normals-more, normals-stop, normals-end, sum-end}
+use Rattle.mesh.proofs.Faces.{Normals, normals-start, normals-more, normals_stop, normals-end, sum-end}
 use Rattle.mesh.proofs.surface.check_faces.Given as goal
 
 abbrev pub invariant-loop-k : goal.invariant-loop-k

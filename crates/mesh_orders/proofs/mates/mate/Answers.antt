@@ -9,7 +9,7 @@ use Rattle.lists.specs.Sort.{LowerBound}
 use Rattle.mesh_orders.specs.Edges.{edge, reverse}
 use Rattle.mesh_orders.specs.Order.{order_list, Uses}
 use Rattle.mesh_orders.specs.OrderLaws.{order-length, order-uses, order-edges}
-use Rattle.mesh_orders.specs.MateLaws.{search-found, search-none}
+use Rattle.mesh_orders.specs.MateLaws.{search_found, search_none}
 use Rattle.mesh_orders.proofs.mates.mate.Goals as goal
 
 pub reverse-e-requires : goal.reverse-e-requires
@@ -26,7 +26,7 @@ returns-then-order-i c =
     let found : LowerBound (edge c.args.faces.now) (order_list c.args.faces.now) (reverse c.args.faces.now c.args.u) c.lower-i.result = let f = c.args.faces.now in
     subst (λ (e : ℕ). LowerBound (edge f) (order_list f) e c.lower-i.result) c.reverse-e.ensures
     (subst (λ (o : List ℕ). LowerBound (edge f) o c.reverse-e.result c.lower-i.result) c.requires.1 c.lower-i.ensures) in
-    search-none c.args.faces.now c.args.u c.requires.0 c.lower-i.result found (λ l e. omega (arith, c.if-order-i.true, size))
+    search_none c.args.faces.now c.args.u c.requires.0 c.lower-i.result found (λ l e. omega (arith, c.if-order-i.true, size))
 
 pub edge-requires : goal.edge-requires
 edge-requires c =
@@ -43,7 +43,7 @@ returns-then-edge-e c =
     let f = c.args.faces.now in
     let same : get_or c.args.order.now i 0 ≡ get_or (order_list f) i 0 = ap (λ (o : List ℕ). get_or o i 0) c.requires.1 in
     same
-    ∙ search-found f c.args.u c.requires.0 i found (omega (arith, c.if-order-i.false, size))
+    ∙ search_found f c.args.u c.requires.0 i found (omega (arith, c.if-order-i.false, size))
     (sym (ap (edge f) same) ∙ sym c.edge.ensures ∙ c.if-edge-e.true ∙ c.reverse-e.ensures)
 
 pub returns : goal.returns
@@ -54,5 +54,5 @@ returns c =
     let i = c.lower-i.result in
     let f = c.args.faces.now in
     let same : get_or c.args.order.now i 0 ≡ get_or (order_list f) i 0 = ap (λ (o : List ℕ). get_or o i 0) c.requires.1 in
-    search-none f c.args.u c.requires.0 i found
+    search_none f c.args.u c.requires.0 i found
     (λ l e. c.if-edge-e.false (c.edge.ensures ∙ ap (edge f) same ∙ e ∙ sym c.reverse-e.ensures))
