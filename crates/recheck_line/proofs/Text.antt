@@ -8,9 +8,9 @@ use native.Mathlib.Numerals.{add-one}
 use native.Mathlib.Omega.{arith}
 use lib.Dec.{ltb, leb}
 use lib.ListN.{length, get_or, set, take, length-append}
-use lib.Seq.{sets, length-sets, length-take-le, take-suc}
+use lib.Seq.{sets, length-sets, length-take-le, take-suc, take_all}
 use borrow.Author.Tests.{lt-ltb, le-ltb}
-use Rattle.io.specs.Digits.{last_digits, IsDigitCount}
+use Rattle.recheck_line.specs.Digits.{last_digits, IsDigitCount}
 use Rattle.recheck_input.specs.declared.Input.{Input}
 use Rattle.recheck_input.specs.declared.Input.TheVariants.{Bytes, Failed}
 use Rattle.refusals.specs.Answer.{Answer, value, refused}
@@ -58,6 +58,10 @@ unfolding places
 places-most zero n = omega arith
 places-most (suc m) n = one_more (ltb n 10) (places m (n / 10)) m (places-most m (n / 10))
 
+length_digits : (k n : ℕ) → length (last_digits 10 k n) ≡ k
+length_digits zero n = refl
+length_digits (suc k) n = simp length-append (rw (length_digits k (n / 10)) (omega arith))
+
 -- a number of 32 bits
 module _ (n r : ℕ) (h : IsDigitCount 10 1 n r) (l : n < 4294967296) where
   right-count : places 19 n ≡ r
@@ -67,6 +71,10 @@ module _ (n r : ℕ) (h : IsDigitCount 10 1 n r) (l : n < 4294967296) where
   unfolding decimal
   decimal-is = rw right-count
 
+  pub digits-count : r ≡ length (decimal n)
+  unfolding decimal
+  digits-count = rw right-count (sym (length_digits r n))
+
   pub few-digits : r ≤ 20
   few-digits = omega (arith, right-count, places-most 19 n)
 
@@ -74,6 +82,10 @@ module _ (n r : ℕ) (h : IsDigitCount 10 1 n r) (l : n < 4294967296) where
 pub put-turn : (l : List ℕ) (at i : ℕ) (xs : List ℕ) {s : List ℕ} → i < length xs → s ≡ sets l at (take i xs) → set s (at + i) (get_or xs i 0) ≡ sets l at (take (i + 1) xs)
 put-turn l at i xs h p =
     rw (p, add-one, take-suc xs i 0 h) (sets_then l at (at + i) (take i xs) (get_or xs i 0 ∷ []) (rw (length-take-le i xs (le_of_lt h))))
+
+-- all of a text
+pub whole-text : (l : List ℕ) (at i : ℕ) (xs : List ℕ) {s : List ℕ} → length xs ≤ i → s ≡ sets l at (take i xs) → s ≡ sets l at xs
+whole-text l at i xs h p = p ∙ rw (take_all i xs h)
 
 -- a text after a text
 joined : (l : List ℕ) (t u : List ℕ) (k : ℕ) {s r : List ℕ} → s ≡ sets l 0 t → r ≡ sets s k u → k ≡ length t → r ≡ sets l 0 (t ++ u)
@@ -106,10 +118,6 @@ module _ (l word : List ℕ) (x y p q : ℕ) (ep : p ≡ length (decimal x)) (eq
   line-put a b c d e = record { count = sym line-length; bytes = line-bytes a b c d e }
 
 -- ---- no line is longer than `lineRoom`
-
-length_digits : (k n : ℕ) → length (last_digits 10 k n) ≡ k
-length_digits zero n = refl
-length_digits (suc k) n = simp length-append (rw (length_digits k (n / 10)) (omega arith))
 
 decimal-most : (n : ℕ) → length (decimal n) ≤ 20
 unfolding decimal
