@@ -7,9 +7,9 @@ use native.Mathlib.Nat.{pow-suc, le_of_lt, zero-add}
 use native.Mathlib.Numerals.{add-one}
 use native.Mathlib.Omega.{arith}
 use lib.Dec.{ltb, leb}
-use lib.ListN.{length, get_or, set, take, length-append}
+use lib.ListN.{length, get_or, set, take, length-append, length-take}
 use lib.Seq.{sets, length-sets, length-take-le, take-suc, take_all}
-use borrow.Author.Tests.{lt-ltb, le-ltb}
+use borrow.Author.Tests.{lt-ltb, le-ltb, lt-leb, le-leb}
 use Rattle.recheck_line.specs.Digits.{last_digits, IsDigitCount}
 use Rattle.recheck_input.specs.declared.Input.{Input}
 use Rattle.recheck_input.specs.declared.Input.TheVariants.{Bytes, Failed}
@@ -143,3 +143,17 @@ input_most Failed b = line_most (refused WrongLength)
 -- so a line of `recheck_line` ends within the buffer
 pub line_fits : (i : Input) (b : List ℕ) {n : ℕ} {new old : List ℕ} → LineAtStart n new old (input_line i b) → line_room ≤ length old → n ≤ length new
 line_fits i b {old = old} h r = omega (arith, input_most i b, h.count, ap length h.bytes, length-sets old 0 (input_line i b))
+
+-- ---- what `recheck` prints of the first n bytes
+
+pub long_line : (n : ℕ) (b : List ℕ) → max_input < n → max_input < length b → recheck_line (take n b) ≡ answer_line (refused TooMany)
+unfolding recheck_line
+long_line n b h room =
+    let long : max_input < length (take n b) = simp length-take (omega arith) in
+    rw (lt-leb (length (take n b)) max_input long)
+
+pub short_line : (n : ℕ) (b : List ℕ) → n ≤ max_input → recheck_line (take n b) ≡ answer_line (checkSheet (take n b))
+unfolding recheck_line
+short_line n b h =
+    let short : length (take n b) ≤ max_input = simp length-take (omega arith) in
+    rw (le-leb (length (take n b)) max_input short)

@@ -63,6 +63,7 @@ pub fn verdict_line(v: Verdict, out: &mut [u8]) -> usize
 }
 
 // Writes the line that `recheck` prints of the first n bytes, which are all that was read.
+#[tactic(auto, using(crate::proofs::Text::long_line, crate::proofs::Text::short_line))]
 fn bytes_line(bytes: &[u8], n: usize, out: &mut [u8]) -> usize
     requires { (max_input < length bytes.now) × (line_room ≤ length out.old) }
     ensures { LineAtStart result out.new out.old (recheck_line (take n bytes.now)) }

@@ -73,7 +73,11 @@ fn main(rt: HostRuntime) -> io::Result<()> {
         vector(1.0, 2.0, 3.0),
     );
     if let Field::At(f) = outside {
-        say(&mut output, within(trace(f), 0.0, 1e-13), b"trace outside: 0\n")?;
+        say(
+            &mut output,
+            within(trace(f), 0.0, 1e-13),
+            b"trace outside: 0\n",
+        )?;
     }
     Ok(())
 }

@@ -8,9 +8,9 @@
 ghost use Rattle.std.specs.Prelude.{◌<◌, ◌≤◌, length};
 
 use sheet::Verdict;
-use test_replay::{Tally, lines};
 use std::io;
 use std::io::{Read, Write};
+use test_replay::{Tally, lines};
 
 fn is_accepted(sheet: &[u8]) -> bool {
     match checker::check_sheet(sheet) {
@@ -86,7 +86,10 @@ fn report_part(output: &mut impl Write, t: Tally, part: usize) -> io::Result<()>
 {
     let accepted = t.compared[part];
     let anew = accepted.wrapping_sub(t.differ[part]);
-    write!(output, "{accepted} accepted, of which the writer writes anew {anew}")
+    write!(
+        output,
+        "{accepted} accepted, of which the writer writes anew {anew}"
+    )
 }
 
 fn report(output: &mut impl Write, sheet: &mut [u8]) -> io::Result<()>
@@ -96,8 +99,15 @@ fn report(output: &mut impl Write, sheet: &mut [u8]) -> io::Result<()>
         return Ok(());
     }
     let length = sheet.len();
-    let verdict = if is_accepted(sheet) { "accepted" } else { "refused" };
-    write!(output, "{length} bytes, {verdict}; with a bit flipped in what was given: ")?;
+    let verdict = if is_accepted(sheet) {
+        "accepted"
+    } else {
+        "refused"
+    };
+    write!(
+        output,
+        "{length} bytes, {verdict}; with a bit flipped in what was given: "
+    )?;
     let t = flip_all(sheet);
     report_part(output, t, GIVEN)?;
     write!(output, "; in the rest: ")?;
@@ -106,7 +116,11 @@ fn report(output: &mut impl Write, sheet: &mut [u8]) -> io::Result<()>
 }
 
 // Reads as many bytes as `sheet` has.
-fn read_and_report(input: &mut impl Read, output: &mut impl Write, sheet: &mut [u8]) -> io::Result<()>
+fn read_and_report(
+    input: &mut impl Read,
+    output: &mut impl Write,
+    sheet: &mut [u8],
+) -> io::Result<()>
     requires { length sheet.old ≤ 16384 }
 {
     if lines::read_line(input, sheet) {

@@ -5,10 +5,9 @@
 #![tactic(auto)]
 
 use recheck_input::{Input, MAX_INPUT};
-use std::fs;
-use std::io;
 use std::io::{Error, ErrorKind, Read};
 use std::rt::Files;
+use std::{fs, io};
 
 // At most so many bytes come of a short read.
 const SHORT: usize = 1000;

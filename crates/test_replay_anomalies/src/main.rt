@@ -9,8 +9,8 @@ ghost use Rattle.std.specs.Prelude.{◌≤◌};
 use anomaly::{NumberAnswer, VectorAnswer};
 use newtonian::Hessian;
 use refusals::Refusal;
-use test_replay::{double_at, lines, vector_at, word_at};
 use std::io;
+use test_replay::{double_at, lines, vector_at, word_at};
 
 // The three numbers of an answer.
 #[derive(Clone, Copy)]

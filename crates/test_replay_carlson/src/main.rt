@@ -4,8 +4,8 @@
 #![tactic(auto)]
 
 use carlson::Integral;
-use test_replay::{double_at, lines, word_at};
 use std::io;
+use test_replay::{double_at, lines, word_at};
 
 fn rc(x: f64, y: f64) -> u64 {
     match carlson::carlson_rc(x, y) {

@@ -6,9 +6,9 @@
 ghost use Rattle.std.specs.Prelude.{◌≡◌, ◌≤◌, length};
 
 use sheet::Verdict;
-use test_replay::lines;
 use std::io;
 use std::io::{Read, Write};
+use test_replay::lines;
 
 fn is_refused(sheet: &[u8], number: u32, place: u32) -> bool {
     match checker::check_sheet(sheet) {

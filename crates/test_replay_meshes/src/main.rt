@@ -7,9 +7,9 @@
 ghost use Rattle.std.specs.Prelude.{◌≤◌, length};
 
 use mesh::Solid;
-use test_replay::{lines, runs, word_at};
 use std::io;
 use std::io::{Read, Write};
+use test_replay::{lines, runs, word_at};
 
 fn is(m: Solid, number: u64, a: u64, b: u64) -> bool {
     match m {

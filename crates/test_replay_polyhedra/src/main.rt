@@ -8,9 +8,9 @@ ghost use Rattle.std.specs.Prelude.{◌≤◌, length};
 
 use newtonian::{Field, Vector};
 use refusals::Refusal;
-use test_replay::{lines, runs, vector_at, word_at};
 use std::io;
 use std::io::{Read, Write};
+use test_replay::{lines, runs, vector_at, word_at};
 
 fn same_refusal(s: &[u8], k: usize, r: Refusal) -> bool
     requires { k ≤ 4000 }

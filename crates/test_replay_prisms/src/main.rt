@@ -4,8 +4,8 @@
 #![tactic(auto)]
 
 use newtonian::Field;
-use test_replay::{lines, vector_at, word_at};
 use std::io;
+use test_replay::{lines, vector_at, word_at};
 
 // Whether the line's answer is the answer to its arguments.
 fn agrees(s: &[u8]) -> bool {

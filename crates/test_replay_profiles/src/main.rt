@@ -8,9 +8,9 @@
 ghost use Rattle.std.specs.Prelude.{◌≡◌, ◌≤◌, length};
 
 use refusals::Cause;
-use test_replay::{Tally, lines, runs, word_at};
 use std::io;
 use std::io::{Read, Write};
+use test_replay::{Tally, lines, runs, word_at};
 
 // The line of a profile: eight numbers and seventeen places, each of 17 bytes.
 const PROFILE_BYTES: usize = 425;

@@ -2,8 +2,8 @@
 // double's bits and its root's. Prints how many lines were compared and how many differ.
 #![tactic(auto)]
 
-use test_replay::{double_at, lines, word_at};
 use std::io;
+use test_replay::{double_at, lines, word_at};
 
 // Whether the line's second number is the root of the first.
 fn agrees(s: &[u8]) -> bool {

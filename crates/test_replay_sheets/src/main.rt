@@ -7,9 +7,9 @@
 ghost use Rattle.std.specs.Prelude.{◌≤◌, length};
 
 use sheet::Verdict;
-use test_replay::lines;
 use std::io;
 use std::io::Read;
+use test_replay::lines;
 
 // Whether the sheet is accepted with the kind and S that stand in its trailer.
 fn accepted(sheet: &[u8]) -> bool
@@ -61,5 +61,11 @@ fn main(rt: HostRuntime) -> io::Result<()> {
         }
         t = lines::count(t, 0, sheet_holds(&mut input, &head));
     }
-    lines::report_as(&mut output, b"sheets: ", b" accepted and written anew, ", t, 0)
+    lines::report_as(
+        &mut output,
+        b"sheets: ",
+        b" accepted and written anew, ",
+        t,
+        0,
+    )
 }

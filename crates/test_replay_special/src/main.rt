@@ -7,8 +7,8 @@
 use carlson::Integral;
 use refusals::Refusal;
 use rings::{CompleteIntegrals, RingAnswer};
-use test_replay::{double_at, lines, word_at};
 use std::io;
+use test_replay::{double_at, lines, word_at};
 
 // The three numbers of an answer.
 #[derive(Clone, Copy)]
