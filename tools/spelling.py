@@ -24,8 +24,8 @@ LIBRARY = set(
     " zero suc nil cons round num nan inf sum any all concat replicate insert remove swap".split()
 )
 KEPT = re.compile(r"^(invariant|decreases|returns|overflow\w*|loop|Need|After|At|In|Then|Else)-|^[0-9]|-spec$|^\+")
-# spelled by hand: the library's word for getD is get_or; three fields that a definition's name would hide
-BY_HAND = {"getD-range": "get_or-range", "in-float": "in_float_lem", "far-sums": "sums_far", "in-limits": "is_in_limits", "well-formed": "is_well_formed"}
+# spelled by hand: the library's word for getD is get_or; three fields and four definitions that another name would meet
+BY_HAND = {"getD-range": "get_or-range", "in-float": "in_float_lem", "far-sums": "sums_far", "in-limits": "is_in_limits", "well-formed": "is_well_formed", "matesAt": "mates_standing", "nextRow": "next_row_of", "sheetLength": "sheet_size", "ruleAnswer": "answer_of_rule"}
 
 
 def files(suffixes):
@@ -52,30 +52,32 @@ def links():
                 print("copied", p)
 
 
-def declared():
-    """The names of antt that the repository declares, in two sets: what is defined (no lemma among them), and all."""
-    defined, names = set(), set()
+def declared(nested):
+    """The names of antt that the repository declares: what is defined, the fields, and all. At first those that stand at the margin, then,
+    nested, those in modules within a file and in files of specs/ called Answers."""
+    defined, fields, names = set(), set(), set()
     for path in files((".antt",)):
-        if os.path.basename(path) in ("Proof.antt", "Invariants.antt", "Answers.antt"):
+        if os.path.basename(path) in ("Proof.antt", "Invariants.antt", "Answers.antt") and not (nested and "/specs/" in path):
             continue
-        inside = False
+        inside = None
         for line in read(path).splitlines():
-            m = re.match(r"^(?:pub )?(record|data) (\S+)", line)
-            if m:
-                defined.add(m[2])
-                inside = True
+            indent = len(line) - len(line.lstrip(" "))
+            m = re.match(r"^( *)(?:pub )?(record|data) (\S+)", line)
+            if m and (nested or not m[1]):
+                defined.add(m[3])
+                inside = indent
                 continue
-            m = re.match(r"^(abbrev |unfoldable |)(?:pub |)([^\s:(){}]+) :(?: |$)", line)
-            if m:
-                inside = False
-                names.add(m[2])
-                if m[1]:
-                    defined.add(m[2])
+            m = re.match(r"^( *)(abbrev |unfoldable |)(?:pub |)([^\s:(){}]+) :(?: |$)", line)
+            if not m:
                 continue
-            m = re.match(r"^  (?:pub )?([^\s:(){}]+) :", line) if inside else None
-            if m:
-                defined.add(m[1])
-    return defined, names | defined
+            if inside is not None and indent > inside and not m[2] and (nested or indent == 2):
+                fields.add(m[3])
+            elif nested or not m[1]:
+                inside = None
+                names.add(m[3])
+                if m[2]:
+                    defined.add(m[3])
+    return defined, fields, names | defined | fields
 
 
 def snake(word):
@@ -101,16 +103,20 @@ def spelled(name, known):
 
 
 def table():
-    defined, names = declared()
-    known = LIBRARY | {snake(d) for d in defined if "-" not in d and re.match(r"^[a-z]", d) and len(d) > 1}
-    out = {n: spelled(n, known) for n in sorted(names)}
-    taken = {n for n in names if out[n] == n}
-    # a definition keeps the plain name before a lemma does
-    for n in sorted((n for n in names if out[n] != n), key=lambda n: (n not in defined, n)):
-        while out[n] in taken:
-            out[n] += "_lem"
-        taken.add(out[n])
-    return {a: b for a, b in out.items() if a != b}
+    out = {}
+    for nested in (False, True):
+        defined, fields, names = declared(nested)
+        known = LIBRARY | {snake(d) for d in defined | fields if "-" not in d and re.match(r"^[a-z]", d) and len(d) > 1}
+        new = {n: spelled(n, known) for n in sorted(names - set(out))}
+        taken = set(out.values()) | {n for n in names if new.get(n) == n}
+        # a definition keeps the plain name before a lemma does
+        first = lambda n: (n not in defined | fields, n) if not nested else (n not in defined, n in fields, n)
+        for n in sorted((n for n in new if new[n] != n), key=first):
+            while new[n] in taken:
+                new[n] += "_lem"
+            taken.add(new[n])
+        out.update({a: b for a, b in new.items() if a != b})
+    return out
 
 
 def turned(text, names):

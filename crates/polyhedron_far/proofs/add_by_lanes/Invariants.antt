@@ -1,0 +1,19 @@
+-- `polyhedron_far::add_by_lanes` meets its contract. Assumes nothing.
+use mathlib.Core.List.{List}
+use mathlib.Core.Path.{ap, ◌∙◌}
+use Prim.Native.Nat.{ℕ, ◌-◌, ◌≤◌, ◌<◌}
+use native.Mathlib.Omega.{arith}
+use Rattle.newtonian.specs.Vectors.{field_numbers}
+use Rattle.newtonian.specs.declared.Newtonian.{Newtonian}
+use Rattle.polyhedron_neumaier.specs.Neumaier.{add_terms}
+use Rattle.polyhedron_neumaier.specs.declared.Pair.{Pair}
+use Rattle.polyhedron_far_lanes.specs.EightFields.{field_at}
+use Rattle.polyhedron_far.specs.Far.{sums_at}
+use Rattle.polyhedron_far.proofs.Stations.{Upto, all-stations, no_station, one-station, same_sums}
+use Rattle.polyhedron_far.proofs.add_by_lanes.Given as goal
+
+abbrev pub invariant-loop-i : goal.invariant-loop-i
+invariant-loop-i l = (l.i ≤ 8) × Upto l.near (λ (j : ℕ) (s : List Pair). add_terms s (field_numbers (field_at l.f j))) l.initial.out l.i l.out
+
+abbrev pub decreases-loop-i : goal.decreases-loop-i
+decreases-loop-i l = 8 - l.i

@@ -1,0 +1,32 @@
+-- `polyhedron_far_lanes::add_point` meets its contract. Assumes nothing.
+use mathlib.Core.Path.{sym, ap, ap₂, ◌∙◌}
+use Prim.Native.Nat.{ℕ, ◌+◌, ◌-◌, ◌≤◌, ◌<◌}
+use native.Mathlib.Omega.{arith}
+use Rattle.newtonian.specs.Point.{add_point}
+use Rattle.newtonian.specs.Vectors.{difference, dot}
+use Rattle.newtonian.specs.declared.Vector.{Vector}
+use Rattle.polyhedron_far_points.specs.Tetrahedral.{point_at}
+use Rattle.polyhedron_far_lanes.specs.EightFields.{field_at}
+use Rattle.polyhedron_far_lanes.proofs.Putting.{Upto, all-fields, no_fields, one_field}
+use Rattle.polyhedron_far_lanes.proofs.add_point.Goals as goal
+
+pub loop-k-init : goal.loop-k-init
+loop-k-init c = (omega arith, no_fields c.requires.o_bound.1)
+
+pub add_point_at-v-requires : goal.add_point_at-v-requires
+add_point_at-v-requires c =
+    let s = c.args in
+    let k = c.loop-k.k in
+    let h : k < 8 = c.loop-k-test.true in
+    (c.requires.squares.0.at k h ∙ sym (ap (λ (x : Vector). dot x x) c.difference.ensures), c.requires.squares.1.at (s.o + k) (omega (arith, h, c.requires.o_bound.0)))
+
+pub loop-k-preserved : goal.loop-k-preserved
+loop-k-preserved c =
+    let l = c.loop-k in
+    let s = c.args in
+    let h : l.k < 8 = c.loop-k-test.true in
+    let e = ap₂ (add_point s.w) c.difference.ensures (c.field_in.ensures ∙ l.invariant.1.rest l.k (omega arith) h) in
+    (omega (arith, h), one_field l.k c.add_point_at-v.result l.invariant.1 h (c.add_point_at-v.ensures ∙ e) c.put.ensures)
+
+pub returns : goal.returns
+returns c = all-fields c.loop-k.invariant.1 c.loop-k-test.false

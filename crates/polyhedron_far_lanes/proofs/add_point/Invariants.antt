@@ -1,0 +1,17 @@
+-- `polyhedron_far_lanes::add_point` meets its contract. Assumes nothing.
+use mathlib.Core.Path.{sym, ap, ap₂, ◌∙◌}
+use Prim.Native.Nat.{ℕ, ◌+◌, ◌-◌, ◌≤◌, ◌<◌}
+use native.Mathlib.Omega.{arith}
+use Rattle.newtonian.specs.Point.{add_point}
+use Rattle.newtonian.specs.Vectors.{difference, dot}
+use Rattle.newtonian.specs.declared.Vector.{Vector}
+use Rattle.polyhedron_far_points.specs.Tetrahedral.{point_at}
+use Rattle.polyhedron_far_lanes.specs.EightFields.{field_at}
+use Rattle.polyhedron_far_lanes.proofs.Putting.{Upto, all-fields, no_fields, one_field}
+use Rattle.polyhedron_far_lanes.proofs.add_point.Given as goal
+
+abbrev pub invariant-loop-k : goal.invariant-loop-k
+invariant-loop-k l = (l.k ≤ 8) × Upto (λ (j : ℕ). add_point l.w (difference l.u (point_at l.px l.py l.pz j)) (field_at l.initial.f j)) l.initial.f l.k l.f
+
+abbrev pub decreases-loop-k : goal.decreases-loop-k
+decreases-loop-k l = 8 - l.k

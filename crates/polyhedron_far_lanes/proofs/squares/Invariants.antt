@@ -1,0 +1,14 @@
+-- `polyhedron_far_lanes::squares` meets its contract. Assumes nothing.
+use mathlib.Core.Path.{ap, ◌∙◌}
+use Prim.Native.Nat.{◌-◌, ◌≤◌}
+use native.Mathlib.Omega.{arith}
+use Rattle.newtonian.specs.Vectors.{dot}
+use Rattle.newtonian.specs.declared.Vector.{Vector}
+use Rattle.polyhedron_far_lanes.proofs.Threes.{SquaresUpto, no_squares, one-square}
+use Rattle.polyhedron_far_lanes.proofs.squares.Given as goal
+
+abbrev pub invariant-loop-k : goal.invariant-loop-k
+invariant-loop-k l = (l.k ≤ 8) × SquaresUpto l.px l.py l.pz l.u l.o l.initial.q l.k l.q
+
+abbrev pub decreases-loop-k : goal.decreases-loop-k
+decreases-loop-k l = 8 - l.k

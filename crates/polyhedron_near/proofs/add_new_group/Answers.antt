@@ -1,0 +1,13 @@
+-- `polyhedron_near::add_new_group` meets its contract. Assumes nothing.
+use mathlib.Core.Path.{refl}
+use Rattle.doubles.specs.Constants.{0·0}
+use Rattle.polyhedron_group.proofs.NewArrays.{new_arrays}
+use Rattle.polyhedron_near.proofs.add_new_group.Goals as goal
+
+pub group-requires : goal.group-requires
+group-requires c = let w = c.requires in record { body = (w.1, w.3); sizes = new_arrays 0·0; ds_len = (refl, refl) }
+
+pub add_group-requires : goal.add_group-requires
+add_group-requires c =
+    let w = c.requires in
+    record { sized = w; describes = c.group.ensures.describes; dyads = c.group.ensures.dyads }

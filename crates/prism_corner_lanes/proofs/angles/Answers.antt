@@ -1,0 +1,23 @@
+-- `prism_corner_lanes::angles` meets its contract. Assumes nothing.
+use mathlib.Core.Path.{◌∙◌}
+use mathlib.Core.Bool.{cond}
+use Prim.Native.Nat.{ℕ, ◌-◌}
+use lib.Ieee.{eq}
+use Rattle.doubles.specs.Rounded.{◌⊗◌}
+use Rattle.doubles.specs.Constants.{0·0}
+use Rattle.lanes.specs.Lanes.{lane}
+use Rattle.lanes.proofs.Filling.{Filled, none_filled, one-filled, all-filled}
+use Rattle.prism_corner_lanes.proofs.CornersMade.{angle-from}
+use Rattle.prism_corner_lanes.proofs.angles.Goals as goal
+
+pub loop-k-init : goal.loop-k-init
+loop-k-init c = none_filled c.requires
+
+pub loop-k-preserved : goal.loop-k-preserved
+loop-k-preserved c = one-filled c.loop-k.invariant c.loop-k-test.true c.pick.ensures
+
+pub returns : goal.returns
+returns c =
+    let o = all-filled c.loop-k.invariant c.loop-k-test.false in
+    let q = c.quotients.ensures in
+    record { size = o.size; at = λ k h. o.at k h ∙ angle-from _ _ _ _ (c.atan_24.ensures.at k h) (q.at k h) }

@@ -1,0 +1,17 @@
+-- `prism_corner_lanes::angles` meets its contract. Assumes nothing.
+use mathlib.Core.Path.{◌∙◌}
+use mathlib.Core.Bool.{cond}
+use Prim.Native.Nat.{ℕ, ◌-◌}
+use lib.Ieee.{eq}
+use Rattle.doubles.specs.Rounded.{◌⊗◌}
+use Rattle.doubles.specs.Constants.{0·0}
+use Rattle.lanes.specs.Lanes.{lane}
+use Rattle.lanes.proofs.Filling.{Filled, none_filled, one-filled, all-filled}
+use Rattle.prism_corner_lanes.proofs.CornersMade.{angle-from}
+use Rattle.prism_corner_lanes.proofs.angles.Given as goal
+
+abbrev pub invariant-loop-k : goal.invariant-loop-k
+invariant-loop-k l = Filled 24 (λ (j : ℕ). cond (eq (lane l.y j ⊗ lane l.z j) 0·0) 0·0 (lane l.t j)) l.initial.a l.k l.a
+
+abbrev pub decreases-loop-k : goal.decreases-loop-k
+decreases-loop-k l = 24 - l.k

@@ -1,0 +1,15 @@
+-- `prism_corner_lanes::quotients` meets its contract. Assumes nothing.
+use mathlib.Core.Path.{refl}
+use Prim.Native.Nat.{◌-◌}
+use Rattle.lanes.proofs.Filling.{Filled, none_filled, one-filled, all-filled}
+use Rattle.prism_corner_lanes.specs.CornerLanes.{quotient_at}
+use Rattle.prism_corner_lanes.proofs.quotients.Goals as goal
+
+pub loop-k-init : goal.loop-k-init
+loop-k-init c = none_filled c.requires
+
+pub loop-k-preserved : goal.loop-k-preserved
+loop-k-preserved c = one-filled c.loop-k.invariant c.loop-k-test.true refl
+
+pub returns : goal.returns
+returns c = all-filled c.loop-k.invariant c.loop-k-test.false

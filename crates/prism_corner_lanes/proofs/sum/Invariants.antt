@@ -1,0 +1,14 @@
+-- `prism_corner_lanes::sum` meets its contract. Assumes nothing.
+use mathlib.Core.Path.{◌≡◌}
+use Prim.Native.Nat.{◌≤◌, ◌-◌}
+use native.Mathlib.Omega.{arith}
+use Rattle.newtonian.specs.Vectors.{zero_field}
+use Rattle.newtonian.specs.Fold.{Fold, fold-none, fold_more}
+use Rattle.prism_corner_lanes.specs.CornerLanes.{add_lanes}
+use Rattle.prism_corner_lanes.proofs.sum.Given as goal
+
+abbrev pub invariant-loop-k : goal.invariant-loop-k
+invariant-loop-k l = (l.k ≤ 8) × (l.f ≡ Fold l.k (add_lanes l.x l.l l.a) zero_field)
+
+abbrev pub decreases-loop-k : goal.decreases-loop-k
+decreases-loop-k l = 8 - l.k

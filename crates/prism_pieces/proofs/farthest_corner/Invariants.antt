@@ -1,0 +1,14 @@
+-- `prism_pieces::farthest_corner` meets its contract. Assumes nothing.
+use Prim.Native.Nat.{◌≤◌, ◌-◌}
+use mathlib.Core.Path.{◌≡◌}
+use native.Mathlib.Omega.{arith}
+use Rattle.doubles.specs.Constants.{0·0}
+use Rattle.newtonian.specs.Fold.{Fold, fold-none, fold_more}
+use Rattle.prism_pieces.specs.Choice.{farther_corner, farthest_corner}
+use Rattle.prism_pieces.proofs.farthest_corner.Given as goal
+
+abbrev pub invariant-loop-k : goal.invariant-loop-k
+invariant-loop-k l = (l.k ≤ 8) × (l.m ≡ Fold l.k (farther_corner l.p l.lo l.hi) 0·0)
+
+abbrev pub decreases-loop-k : goal.decreases-loop-k
+decreases-loop-k l = 8 - l.k
