@@ -1,2 +1,3 @@
--- Laws of the line.
+-- Powers of the base, and laws of the line.
+pub mod Powers
 pub mod Text

@@ -7,10 +7,10 @@ use native.Mathlib.Nat.{pow-suc, le_of_lt, zero-add}
 use native.Mathlib.Numerals.{add-one}
 use native.Mathlib.Omega.{arith}
 use lib.Dec.{ltb, leb}
-use lib.ListN.{length, get_or, set, take, length-append}
-use lib.Seq.{sets, length-sets, length-take-le, take-suc}
-use borrow.Author.Tests.{lt-ltb, le-ltb}
-use Rattle.io.specs.Digits.{last_digits, IsDigitCount}
+use lib.ListN.{length, get_or, set, take, length-append, length-take}
+use lib.Seq.{sets, length-sets, length-take-le, take-suc, take_all}
+use borrow.Author.Tests.{lt-ltb, le-ltb, lt-leb, le-leb}
+use Rattle.recheck_line.specs.Digits.{last_digits, IsDigitCount}
 use Rattle.recheck_input.specs.declared.Input.{Input}
 use Rattle.recheck_input.specs.declared.Input.TheVariants.{Bytes, Failed}
 use Rattle.refusals.specs.Answer.{Answer, value, refused}
@@ -58,6 +58,10 @@ unfolding places
 places-most zero n = omega arith
 places-most (suc m) n = one_more (ltb n 10) (places m (n / 10)) m (places-most m (n / 10))
 
+length_digits : (k n : ℕ) → length (last_digits 10 k n) ≡ k
+length_digits zero n = refl
+length_digits (suc k) n = simp length-append (rw (length_digits k (n / 10)) (omega arith))
+
 -- a number of 32 bits
 module _ (n r : ℕ) (h : IsDigitCount 10 1 n r) (l : n < 4294967296) where
   right-count : places 19 n ≡ r
@@ -67,6 +71,10 @@ module _ (n r : ℕ) (h : IsDigitCount 10 1 n r) (l : n < 4294967296) where
   unfolding decimal
   decimal-is = rw right-count
 
+  pub digits-count : r ≡ length (decimal n)
+  unfolding decimal
+  digits-count = rw right-count (sym (length_digits r n))
+
   pub few-digits : r ≤ 20
   few-digits = omega (arith, right-count, places-most 19 n)
 
@@ -74,6 +82,10 @@ module _ (n r : ℕ) (h : IsDigitCount 10 1 n r) (l : n < 4294967296) where
 pub put-turn : (l : List ℕ) (at i : ℕ) (xs : List ℕ) {s : List ℕ} → i < length xs → s ≡ sets l at (take i xs) → set s (at + i) (get_or xs i 0) ≡ sets l at (take (i + 1) xs)
 put-turn l at i xs h p =
     rw (p, add-one, take-suc xs i 0 h) (sets_then l at (at + i) (take i xs) (get_or xs i 0 ∷ []) (rw (length-take-le i xs (le_of_lt h))))
+
+-- all of a text
+pub whole-text : (l : List ℕ) (at i : ℕ) (xs : List ℕ) {s : List ℕ} → length xs ≤ i → s ≡ sets l at (take i xs) → s ≡ sets l at xs
+whole-text l at i xs h p = p ∙ rw (take_all i xs h)
 
 -- a text after a text
 joined : (l : List ℕ) (t u : List ℕ) (k : ℕ) {s r : List ℕ} → s ≡ sets l 0 t → r ≡ sets s k u → k ≡ length t → r ≡ sets l 0 (t ++ u)
@@ -107,10 +119,6 @@ module _ (l word : List ℕ) (x y p q : ℕ) (ep : p ≡ length (decimal x)) (eq
 
 -- ---- no line is longer than `lineRoom`
 
-length_digits : (k n : ℕ) → length (last_digits 10 k n) ≡ k
-length_digits zero n = refl
-length_digits (suc k) n = simp length-append (rw (length_digits k (n / 10)) (omega arith))
-
 decimal-most : (n : ℕ) → length (decimal n) ≤ 20
 unfolding decimal
 decimal-most n = rw (length_digits (places 19 n) n) (places-most 19 n)
@@ -135,3 +143,17 @@ input_most Failed b = line_most (refused WrongLength)
 -- so a line of `recheck_line` ends within the buffer
 pub line_fits : (i : Input) (b : List ℕ) {n : ℕ} {new old : List ℕ} → LineAtStart n new old (input_line i b) → line_room ≤ length old → n ≤ length new
 line_fits i b {old = old} h r = omega (arith, input_most i b, h.count, ap length h.bytes, length-sets old 0 (input_line i b))
+
+-- ---- what `recheck` prints of the first n bytes
+
+pub long_line : (n : ℕ) (b : List ℕ) → max_input < n → max_input < length b → recheck_line (take n b) ≡ answer_line (refused TooMany)
+unfolding recheck_line
+long_line n b h room =
+    let long : max_input < length (take n b) = simp length-take (omega arith) in
+    rw (lt-leb (length (take n b)) max_input long)
+
+pub short_line : (n : ℕ) (b : List ℕ) → n ≤ max_input → recheck_line (take n b) ≡ answer_line (checkSheet (take n b))
+unfolding recheck_line
+short_line n b h =
+    let short : length (take n b) ≤ max_input = simp length-take (omega arith) in
+    rw (le-leb (length (take n b)) max_input short)

@@ -1,2 +1,3 @@
 -- The line that `recheck` prints.
+pub mod Digits
 pub mod Line

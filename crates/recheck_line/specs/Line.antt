@@ -1,7 +1,7 @@
 -- The line that `recheck` prints, in ASCII, as document 01 has it: `accepted KIND S` or `refused NUMBER PLACE`, and a newline. Definitions only.
 use Rattle.std.specs.Prelude.{◌≡◌, cond, List, [], ◌∷◌, ◌++◌, ℕ, zero, suc, ◌/◌, ltb, leb, length, get_or, take}
 use Rattle.std.proofs.lemmas.List.Edits.{sets}
-use Rattle.io.specs.Digits.{last_digits}
+use Rattle.recheck_line.specs.Digits.{last_digits}
 use Rattle.recheck_input.specs.declared.Input.{Input}
 use Rattle.recheck_input.specs.declared.Input.TheVariants.{Bytes, Failed}
 use Rattle.refusals.specs.Answer.{Answer, value, refused}

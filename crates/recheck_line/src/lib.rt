@@ -6,19 +6,21 @@ ghost use Rattle.std.proofs.lemmas.List.Edits.{sets};
 ghost use Rattle.sheet.specs.Checker.{verdict_answer};
 ghost use Rattle.recheck_line.specs.Line.{decimal, line_of, line_room, answer_line, max_input, recheck_line, input_line, LineAtStart};
 
+mod digits;
+
 use recheck_input::{Input, MAX_INPUT};
 use refusals::Refusal;
 use sheet::Verdict;
+use std::io;
+use std::io::{Read, Write};
 
 // Writes text from place at on.
 fn put(out: &mut [u8], at: usize, text: &[u8])
     requires { at + length text.now ≤ length out.old }
     ensures { out.new ≡ sets out.old at text.now }
 {
-    let mut i = 0;
-    while i < text.len() {
+    for i in 0..text.len() {
         out[at + i] = text[i];
-        i += 1;
     }
 }
 
@@ -28,9 +30,9 @@ fn put_decimal(out: &mut [u8], at: usize, n: u32) -> usize
     ensures value { (result ≡ length (decimal n)) × (result ≤ 20) }
     ensures out_after { out.new ≡ sets out.old at (decimal n) }
 {
-    let mut digits = [0u8; 20];
-    let k = io::decimal(n as u64, &mut digits);
-    put(out, at, &digits[..k]);
+    let mut text = [0u8; 20];
+    let k = digits::decimal(n as u64, &mut text);
+    put(out, at, &text[..k]);
     k
 }
 
@@ -61,6 +63,7 @@ pub fn verdict_line(v: Verdict, out: &mut [u8]) -> usize
 }
 
 // Writes the line that `recheck` prints of the first n bytes, which are all that was read.
+#[tactic(auto, using(crate::proofs::Text::long_line, crate::proofs::Text::short_line))]
 fn bytes_line(bytes: &[u8], n: usize, out: &mut [u8]) -> usize
     requires { (max_input < length bytes.now) × (line_room ≤ length out.old) }
     ensures { LineAtStart result out.new out.old (recheck_line (take n bytes.now)) }
@@ -83,11 +86,11 @@ pub fn recheck_line(buffer: &[u8; MAX_INPUT + 1], input: Input, out: &mut [u8]) 
     }
 }
 
-// The program `recheck`, whole: reads a sheet from the descriptor `input`, and writes its line to the descriptor `output`.
-pub fn recheck(input: i32, output: i32) {
+// The program `recheck`, whole: reads a sheet from the reader `input`, and writes its line to the writer `output`. Says on standard error why a read failed.
+pub fn recheck(rt: &impl Eprint, input: &mut impl Read, output: &mut impl Write) -> io::Result<()> {
     let mut buffer = [0u8; MAX_INPUT + 1];
-    let read = recheck_input::read_input(input, &mut buffer);
+    let read = recheck_input::read_input(rt, input, &mut buffer);
     let mut line = [0u8; 64];
     let k = recheck_line(&buffer, read, &mut line);
-    io::write_all(output, &line[..k]);
+    output.write_all(&line[..k])
 }

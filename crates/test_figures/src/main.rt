@@ -2,8 +2,9 @@
 // holds.
 #![tactic(auto)]
 
-use libc::STDOUT_FILENO;
 use newtonian::{Field, Newtonian, Vector};
+use std::io;
+use std::io::Write;
 
 // The gravitational constant, in SI units (CODATA 2018).
 const G: f64 = 6.6743e-11;
@@ -16,23 +17,26 @@ fn within(x: f64, y: f64, tolerance: f64) -> bool {
     doubles::abs(x - y) < tolerance
 }
 
-fn say(holds: bool, what: &[u8]) {
+fn say(output: &mut impl Write, holds: bool, what: &[u8]) -> io::Result<()> {
     if holds {
-        io::write_all(STDOUT_FILENO, what);
+        output.write_all(what)?;
     }
+    Ok(())
 }
 
 // A layer of rock 1 m thick and 4,000 km wide, of 2,670 kg/m³, pulls 0.112 mGal on top: 2πGρ per metre.
-fn bouguer(f: Newtonian) {
+fn bouguer(output: &mut impl Write, f: Newtonian) -> io::Result<()> {
     let g = f.gradient;
     say(
+        output,
         within(-g.z * G * 2670.0 / 1e-5, 0.11197, 1e-5),
         b"Bouguer gradient: 0.11197 mGal/m\n",
-    );
+    )?;
     say(
+        output,
         within(-g.z / (2.0 * doubles::PI), 1.0, 1e-6),
         b"Bouguer gradient: 2 pi\n",
-    );
+    )
 }
 
 // Poisson: the Hessian's trace is -4π inside the body, and 0 outside.
@@ -41,14 +45,15 @@ fn trace(f: Newtonian) -> f64 {
     h.x.x + h.y.y + h.z.z
 }
 
-fn main() {
+fn main(rt: HostRuntime) -> io::Result<()> {
+    let mut output = io::writer(&rt);
     let layer = prism::prism(
         vector(0.0, 0.0, 0.0),
         vector(-2e6, -2e6, -1.0),
         vector(2e6, 2e6, 0.0),
     );
     if let Field::At(f) = layer {
-        bouguer(f);
+        bouguer(&mut output, f)?;
     }
     let inside = prism::prism(
         vector(0.3, 0.2, 0.6),
@@ -57,9 +62,10 @@ fn main() {
     );
     if let Field::At(f) = inside {
         say(
+            &mut output,
             within(trace(f), -4.0 * doubles::PI, 1e-13),
             b"trace inside: -4 pi\n",
-        );
+        )?;
     }
     let outside = prism::prism(
         vector(0.3, 0.2, 3.6),
@@ -67,6 +73,11 @@ fn main() {
         vector(1.0, 2.0, 3.0),
     );
     if let Field::At(f) = outside {
-        say(within(trace(f), 0.0, 1e-13), b"trace outside: 0\n");
+        say(
+            &mut output,
+            within(trace(f), 0.0, 1e-13),
+            b"trace outside: 0\n",
+        )?;
     }
+    Ok(())
 }

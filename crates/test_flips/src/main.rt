@@ -7,8 +7,9 @@
 
 ghost use Rattle.std.specs.Prelude.{◌<◌, ◌≤◌, length};
 
-use libc::STDOUT_FILENO;
 use sheet::Verdict;
+use std::io;
+use std::io::{Read, Write};
 use test_replay::{Tally, lines};
 
 fn is_accepted(sheet: &[u8]) -> bool {
@@ -80,68 +81,70 @@ fn flip_all(sheet: &mut [u8]) -> Tally
 }
 
 // How many are accepted, and how many of these are written anew.
-fn report_part(t: Tally, part: usize)
+fn report_part(output: &mut impl Write, t: Tally, part: usize) -> io::Result<()>
     requires { part < 8 }
 {
     let accepted = t.compared[part];
-    io::print_decimal(STDOUT_FILENO, accepted);
-    io::write_all(
-        STDOUT_FILENO,
-        b" accepted, of which the writer writes anew ",
-    );
-    io::print_decimal(
-        STDOUT_FILENO,
-        std::num::wrapping_sub_u64(accepted, t.differ[part]),
-    );
+    let anew = accepted.wrapping_sub(t.differ[part]);
+    write!(
+        output,
+        "{accepted} accepted, of which the writer writes anew {anew}"
+    )
 }
 
-fn report(sheet: &mut [u8])
+fn report(output: &mut impl Write, sheet: &mut [u8]) -> io::Result<()>
     requires { length sheet.old ≤ 16384 }
 {
     if sheet.len() < 80 {
-        return;
+        return Ok(());
     }
-    io::print_decimal(STDOUT_FILENO, sheet.len() as u64);
-    if is_accepted(sheet) {
-        io::write_all(
-            STDOUT_FILENO,
-            b" bytes, accepted; with a bit flipped in what was given: ",
-        );
+    let length = sheet.len();
+    let verdict = if is_accepted(sheet) {
+        "accepted"
     } else {
-        io::write_all(
-            STDOUT_FILENO,
-            b" bytes, refused; with a bit flipped in what was given: ",
-        );
-    }
+        "refused"
+    };
+    write!(
+        output,
+        "{length} bytes, {verdict}; with a bit flipped in what was given: "
+    )?;
     let t = flip_all(sheet);
-    report_part(t, GIVEN);
-    io::write_all(STDOUT_FILENO, b"; in the rest: ");
-    report_part(t, REST);
-    io::write_all(STDOUT_FILENO, b"\n");
+    report_part(output, t, GIVEN)?;
+    write!(output, "; in the rest: ")?;
+    report_part(output, t, REST)?;
+    writeln!(output)
 }
 
 // Reads as many bytes as `sheet` has.
-fn read_and_report(sheet: &mut [u8])
+fn read_and_report(
+    input: &mut impl Read,
+    output: &mut impl Write,
+    sheet: &mut [u8],
+) -> io::Result<()>
     requires { length sheet.old ≤ 16384 }
 {
-    if lines::read_line(sheet) {
-        report(sheet);
+    if lines::read_line(input, sheet) {
+        return report(output, sheet);
     }
+    Ok(())
 }
 
 // The sheet that this length begins.
-fn next_sheet(head: &[u8; 4]) {
+fn next_sheet(input: &mut impl Read, output: &mut impl Write, head: &[u8; 4]) -> io::Result<()> {
     let n = lines::small(sheet_layout::u32_at(head, 0));
-    let mut bytes = io::large_buffer();
-    read_and_report(&mut bytes[..n]);
+    let mut bytes = [0u8; 65536];
+    read_and_report(input, output, &mut bytes[..n])
 }
 
-fn main() {
+fn main(rt: HostRuntime) -> io::Result<()> {
+    let mut input = rt.reader();
+    let mut output = io::writer(&rt);
     for _ in 0..1000usize {
         let mut head = [0u8; 4];
-        if !lines::read_line(&mut head) {
+        if !lines::read_line(&mut input, &mut head) {
             break;
         }
-        next_sheet(&head);
+        next_sheet(&mut input, &mut output, &head)?;
     }
+    Ok(())
 }

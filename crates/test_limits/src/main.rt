@@ -3,34 +3,26 @@
 
 ghost use Rattle.std.specs.Prelude.{◌≡◌, ◌+◌, ◌*◌, ◌≤◌, length};
 
-use libc::STDOUT_FILENO;
 use newtonian::Vector;
 use sheet::Verdict;
+use std::io;
 
-fn print(name: &[u8], v: Verdict) {
-    io::write_all(STDOUT_FILENO, name);
+fn print(rt: &impl Print, name: &str, v: Verdict) -> io::Result<()> {
     match v {
-        Verdict::Accepted(kind, stations) => {
-            io::write_all(STDOUT_FILENO, b": accepted ");
-            io::print_decimal(STDOUT_FILENO, kind as u64);
-            io::write_all(STDOUT_FILENO, b" ");
-            io::print_decimal(STDOUT_FILENO, stations as u64);
-        }
+        Verdict::Accepted(kind, stations) => println!(rt; "{name}: accepted {kind} {stations}"),
         Verdict::Refused(r) => {
-            io::write_all(STDOUT_FILENO, b": refused ");
-            io::print_decimal(STDOUT_FILENO, refusals::number(r) as u64);
-            io::write_all(STDOUT_FILENO, b" ");
-            io::print_decimal(STDOUT_FILENO, refusals::place(r) as u64);
+            let number = refusals::number(r);
+            let place = refusals::place(r);
+            println!(rt; "{name}: refused {number} {place}")
         }
     }
-    io::write_all(STDOUT_FILENO, b"\n");
 }
 
 // Prints the verdict on the first n bytes.
-fn check(name: &[u8], sheet: &[u8], n: usize)
+fn check(rt: &impl Print, name: &str, sheet: &[u8], n: usize) -> io::Result<()>
     requires { n ≤ length sheet.now }
 {
-    print(name, checker::check_sheet(&sheet[..n]));
+    print(rt, name, checker::check_sheet(&sheet[..n]))
 }
 
 // Kind 1, the counts and the pointer, in the trailer at place `at`.
@@ -83,11 +75,9 @@ fn put_corners(verts: &mut [f64])
     requires { 49152 ≤ length verts.old }
 {
     let mut x = 0.0;
-    let mut i: usize = 0;
-    while i < 16384 {
+    for i in 0..16384 {
         put_vertex(verts, 3 * i, x, x * x, 0.0);
         x = x + 1.0;
-        i += 1;
     }
 }
 
@@ -103,13 +93,11 @@ fn put_face(faces: &mut [u32], at: usize, a: u32, b: u32, c: u32)
 fn put_faces(faces: &mut [u32])
     requires { 98304 ≤ length faces.old }
 {
-    let mut i: u32 = 0;
-    while i < CORNERS {
+    for i in 0..CORNERS {
         let next = (i + 1) % CORNERS;
         let at = 6 * (i as usize);
         put_face(faces, at, i, next, CORNERS);
         put_face(faces, at + 3, next, i, CORNERS + 1);
-        i += 1;
     }
 }
 
@@ -135,12 +123,13 @@ fn write_faces(sheet: &mut [u8]) {
     );
 }
 
-fn try_faces() {
+#[inline(never)]
+fn try_faces(rt: &impl Print) -> io::Result<()> {
     let mut sheet = faces_sheet();
     write_faces(&mut sheet);
-    check(b"F = 32768", &sheet, 1572992);
+    check(rt, "F = 32768", &sheet, 1572992)?;
     put_counts(&mut sheet, 1572948, 16386, 32769, 0);
-    check(b"F = 32769", &sheet, 1573028);
+    check(rt, "F = 32769", &sheet, 1573028)
 }
 
 // ---- S: one station of the tetrahedron T, as often as S
@@ -156,10 +145,8 @@ fn stations_sheet() -> [u8; 5767576]
 fn copy(src: &[u8], from: usize, n: usize, dst: &mut [u8], to: usize)
     requires { (from + n ≤ length src.now) × (to + n ≤ length dst.old) }
 {
-    let mut i = 0;
-    while i < n {
+    for i in 0..n {
         dst[to + i] = src[from + i];
-        i += 1;
     }
 }
 
@@ -167,10 +154,8 @@ fn copy(src: &[u8], from: usize, n: usize, dst: &mut [u8], to: usize)
 fn copy_on(bytes: &mut [u8], w: usize, from: usize, to: usize)
     requires { (w ≤ from) × (from ≤ to) × (to ≤ length bytes.old) }
 {
-    let mut i = from;
-    while i < to {
+    for i in from..to {
         bytes[i] = bytes[i - w];
-        i += 1;
     }
 }
 
@@ -210,27 +195,22 @@ fn spread(one: &[u8], sheet: &mut [u8], s: u32)
     put_counts(sheet, end, 4, 4, s);
 }
 
-fn try_stations() {
+#[inline(never)]
+fn try_stations(rt: &impl Print) -> io::Result<()> {
     let one = one_station();
     let mut sheet = stations_sheet();
     spread(&one, &mut sheet, 65536);
-    check(b"S = 65536", &sheet, 5767488);
+    check(rt, "S = 65536", &sheet, 5767488)?;
     spread(&one, &mut sheet, 65537);
-    check(b"S = 65537", &sheet, 5767576);
+    check(rt, "S = 65537", &sheet, 5767576)
 }
 
-// The limit of F, and then k times that of S. It calls itself, and k is known at run time only, so that the compiler leaves each its own stack frame: in one
-// frame they would not fit.
-fn try_limits(k: usize) {
-    if k == 0 {
-        try_faces();
-        return;
-    }
-    try_limits(k - 1);
-    try_stations();
+// The limit of F, and then that of S. Each has its own stack frame: in one frame they would not fit.
+fn try_limits(rt: &impl Print) -> io::Result<()> {
+    try_faces(rt)?;
+    try_stations(rt)
 }
 
-fn main() {
-    // 1: the program's name
-    try_limits(os::arg_count());
+fn main(rt: HostRuntime) -> io::Result<()> {
+    try_limits(&rt)
 }

@@ -1,8 +1,8 @@
 // Reads a sheet of up to 65,536 bytes on standard input, and prints whether it is accepted.
 #![tactic(auto)]
 
-use libc::{STDIN_FILENO, STDOUT_FILENO};
+use std::io;
 
-fn main() {
-    recheck_line::recheck(STDIN_FILENO, STDOUT_FILENO);
+fn main(rt: HostRuntime) -> io::Result<()> {
+    recheck_line::recheck(&rt, &mut rt.reader(), &mut io::writer(&rt))
 }

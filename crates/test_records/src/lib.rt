@@ -19,10 +19,8 @@ fn station_place(line: &[u8], at: usize, i: usize) -> usize
 pub fn read_stations(body: &[u8], at: usize, line: &[u8], stations: &mut [f64])
     requires { (at ≤ 3000) × (length stations.old ≤ 1000) }
 {
-    let mut i = 0;
-    while i < stations.len() {
+    for i in 0..stations.len() {
         stations[i] = double_at(body, station_place(line, at, i / 3) + i % 3);
-        i += 1;
     }
 }
 
@@ -36,10 +34,8 @@ fn field_mark(i: usize) -> u64
 pub fn mark_fields(fields: &mut [f64])
     requires { length fields.old ≤ 1000 }
 {
-    let mut i = 0;
-    while i < fields.len() {
+    for i in 0..fields.len() {
         fields[i] = doubles::of_bits(field_mark(i));
-        i += 1;
     }
 }
 
@@ -57,12 +53,10 @@ fn same_fields(body: &[u8], at: usize, line: &[u8], fields: &[f64]) -> bool
     requires { (at ≤ 3000) × (length fields.now ≤ 1000) }
 {
     let filled = runs::length_at(line, 6);
-    let mut i = 0;
-    while i < fields.len() {
+    for i in 0..fields.len() {
         if field_after(body, at, line, filled, i) != doubles::to_bits(fields[i]) {
             return false;
         }
-        i += 1;
     }
     true
 }
@@ -80,12 +74,10 @@ fn work_after(body: &[u8], at: usize, n: usize, i: usize) -> u64
 fn same_work(body: &[u8], at: usize, n: usize, work: &[u32]) -> bool
     requires { (at ≤ 3000) × (length work.now ≤ 1000) }
 {
-    let mut i = 0;
-    while i < work.len() {
+    for i in 0..work.len() {
         if work_after(body, at, n, i) != work[i] as u64 {
             return false;
         }
-        i += 1;
     }
     true
 }

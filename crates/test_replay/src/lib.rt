@@ -45,14 +45,12 @@ pub fn word_at(s: &[u8], k: usize) -> u64 {
     }
     let from = 17 * k;
     let mut v: u64 = 0;
-    let mut i = 0;
-    while i < 16 {
+    for i in 0..16 {
         let d = digit(s[from + i]);
         if 16 <= d {
             return NONE;
         }
         v = (v << 4) | d;
-        i += 1;
     }
     v
 }

@@ -2,7 +2,8 @@
 ghost use Rattle.std.specs.Prelude.{◌<◌, ◌≤◌};
 
 use crate::Tally;
-use libc::{STDIN_FILENO, STDOUT_FILENO};
+use std::io;
+use std::io::{Read, Write};
 
 pub fn nothing() -> Tally {
     Tally {
@@ -18,17 +19,17 @@ pub fn count(t: Tally, call: u64, agrees: bool) -> Tally {
     }
     let i = call as usize;
     let mut r = t;
-    r.compared[i] = std::num::wrapping_add_u64(r.compared[i], 1);
+    r.compared[i] = r.compared[i].wrapping_add(1);
     if agrees {
         return r;
     }
-    r.differ[i] = std::num::wrapping_add_u64(r.differ[i], 1);
+    r.differ[i] = r.differ[i].wrapping_add(1);
     r
 }
 
-// Reads as many bytes as `line` has from standard input; false where there are fewer.
-pub fn read_line(line: &mut [u8]) -> bool {
-    io::read_full(STDIN_FILENO, line) == line.len()
+// Reads as many bytes as `line` has; false where there are fewer, or a read fails.
+pub fn read_line(input: &mut impl Read, line: &mut [u8]) -> bool {
+    input.read_exact(line).is_ok()
 }
 
 // A length that a list gives, if it is within 16,384, else 0.
@@ -39,18 +40,25 @@ pub fn small(n: u32) -> usize
 }
 
 // Prints a call's line: its name, how many, what was done with them, how many differ.
-pub fn report_as(name: &[u8], done: &[u8], t: Tally, call: usize)
+pub fn report_as(
+    output: &mut impl Write,
+    name: &[u8],
+    done: &[u8],
+    t: Tally,
+    call: usize,
+) -> io::Result<()>
     requires { call < 8 }
 {
-    io::write_all(STDOUT_FILENO, name);
-    io::print_decimal(STDOUT_FILENO, t.compared[call]);
-    io::write_all(STDOUT_FILENO, done);
-    io::print_decimal(STDOUT_FILENO, t.differ[call]);
-    io::write_all(STDOUT_FILENO, b" differ\n");
+    output.write_all(name)?;
+    let compared = t.compared[call];
+    write!(output, "{compared}")?;
+    output.write_all(done)?;
+    let differ = t.differ[call];
+    writeln!(output, "{differ} differ")
 }
 
-pub fn report(name: &[u8], t: Tally, call: usize)
+pub fn report(output: &mut impl Write, name: &[u8], t: Tally, call: usize) -> io::Result<()>
     requires { call < 8 }
 {
-    report_as(name, b" compared, ", t, call);
+    report_as(output, name, b" compared, ", t, call)
 }

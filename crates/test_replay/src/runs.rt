@@ -30,10 +30,8 @@ pub fn length_at(s: &[u8], k: usize) -> usize
 pub fn read_doubles(s: &[u8], at: usize, xs: &mut [f64])
     requires { (at ≤ 10000) × (length xs.old ≤ 1000) }
 {
-    let mut i = 0;
-    while i < xs.len() {
+    for i in 0..xs.len() {
         xs[i] = double_at(s, at + i);
-        i += 1;
     }
 }
 
@@ -41,10 +39,8 @@ pub fn read_doubles(s: &[u8], at: usize, xs: &mut [f64])
 pub fn read_indices(s: &[u8], at: usize, xs: &mut [u32])
     requires { (at ≤ 10000) × (length xs.old ≤ 1000) }
 {
-    let mut i = 0;
-    while i < xs.len() {
+    for i in 0..xs.len() {
         xs[i] = (word_at(s, at + i) % 0x1_0000_0000) as u32;
-        i += 1;
     }
 }
 
@@ -52,10 +48,8 @@ pub fn read_indices(s: &[u8], at: usize, xs: &mut [u32])
 pub fn mark(work: &mut [u32])
     requires { length work.old ≤ 98307 }
 {
-    let mut i = 0;
-    while i < work.len() {
+    for i in 0..work.len() {
         work[i] = 0xabcd_0000 + (i % 0x1_0000) as u32;
-        i += 1;
     }
 }
 
@@ -63,12 +57,10 @@ pub fn mark(work: &mut [u32])
 pub fn same_work(s: &[u8], at: usize, work: &[u32]) -> bool
     requires { (at ≤ 10000) × (length work.now ≤ 98307) }
 {
-    let mut i = 0;
-    while i < work.len() {
+    for i in 0..work.len() {
         if word_at(s, at + i) != work[i] as u64 {
             return false;
         }
-        i += 1;
     }
     true
 }
@@ -77,12 +69,10 @@ pub fn same_work(s: &[u8], at: usize, work: &[u32]) -> bool
 fn same_doubles(s: &[u8], at: usize, xs: &[f64]) -> bool
     requires { (at ≤ 10000) × (length xs.now ≤ 1000) }
 {
-    let mut i = 0;
-    while i < xs.len() {
+    for i in 0..xs.len() {
         if word_at(s, at + i) != doubles::to_bits(xs[i]) {
             return false;
         }
-        i += 1;
     }
     true
 }

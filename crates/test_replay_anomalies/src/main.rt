@@ -9,6 +9,7 @@ ghost use Rattle.std.specs.Prelude.{◌≤◌};
 use anomaly::{NumberAnswer, VectorAnswer};
 use newtonian::Hessian;
 use refusals::Refusal;
+use std::io;
 use test_replay::{double_at, lines, vector_at, word_at};
 
 // The three numbers of an answer.
@@ -116,20 +117,22 @@ fn agrees(s: &[u8]) -> bool {
     word_at(s, 19) == a.2
 }
 
-fn main() {
+fn main(rt: HostRuntime) -> io::Result<()> {
+    let mut input = rt.reader();
+    let mut output = io::writer(&rt);
     let mut t = lines::nothing();
     for _ in 0..1000000usize {
         let mut line = [0u8; 340];
-        if !lines::read_line(&mut line) {
+        if !lines::read_line(&mut input, &mut line) {
             break;
         }
         t = lines::count(t, word_at(&line, 0), agrees(&line));
     }
-    lines::report(b"body: ", t, 1);
-    lines::report(b"total_field: ", t, 2);
-    lines::report(b"sphere: ", t, 3);
-    lines::report(b"cylinder: ", t, 4);
-    lines::report(b"ellipsoid_factors: ", t, 5);
-    lines::report(b"magnetisation: ", t, 6);
-    lines::report(b"koenigsberger: ", t, 7);
+    lines::report(&mut output, b"body: ", t, 1)?;
+    lines::report(&mut output, b"total_field: ", t, 2)?;
+    lines::report(&mut output, b"sphere: ", t, 3)?;
+    lines::report(&mut output, b"cylinder: ", t, 4)?;
+    lines::report(&mut output, b"ellipsoid_factors: ", t, 5)?;
+    lines::report(&mut output, b"magnetisation: ", t, 6)?;
+    lines::report(&mut output, b"koenigsberger: ", t, 7)
 }

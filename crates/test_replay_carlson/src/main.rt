@@ -4,6 +4,7 @@
 #![tactic(auto)]
 
 use carlson::Integral;
+use std::io;
 use test_replay::{double_at, lines, word_at};
 
 fn rc(x: f64, y: f64) -> u64 {
@@ -27,17 +28,19 @@ fn agrees(s: &[u8]) -> bool {
     answer(word_at(s, 0), double_at(s, 1), double_at(s, 2)) == word_at(s, 3)
 }
 
-fn main() {
+fn main(rt: HostRuntime) -> io::Result<()> {
+    let mut input = rt.reader();
+    let mut output = io::writer(&rt);
     let mut t = lines::nothing();
     for _ in 0..1000000usize {
         let mut line = [0u8; 68];
-        if !lines::read_line(&mut line) {
+        if !lines::read_line(&mut input, &mut line) {
             break;
         }
         t = lines::count(t, word_at(&line, 0), agrees(&line));
     }
-    lines::report(b"rc: ", t, 1);
-    lines::report(b"ln: ", t, 2);
-    lines::report(b"atan: ", t, 3);
-    lines::report(b"atan2: ", t, 4);
+    lines::report(&mut output, b"rc: ", t, 1)?;
+    lines::report(&mut output, b"ln: ", t, 2)?;
+    lines::report(&mut output, b"atan: ", t, 3)?;
+    lines::report(&mut output, b"atan2: ", t, 4)
 }

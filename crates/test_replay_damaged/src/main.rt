@@ -5,8 +5,9 @@
 
 ghost use Rattle.std.specs.Prelude.{◌≡◌, ◌≤◌, length};
 
-use libc::STDOUT_FILENO;
 use sheet::Verdict;
+use std::io;
+use std::io::{Read, Write};
 use test_replay::lines;
 
 fn is_refused(sheet: &[u8], number: u32, place: u32) -> bool {
@@ -56,33 +57,36 @@ fn limits() -> bool {
 }
 
 // Reads as many bytes as `sheet` has.
-fn holds(sheet: &mut [u8], number: u32, place: u32) -> bool {
-    if !lines::read_line(sheet) {
+fn holds(input: &mut impl Read, sheet: &mut [u8], number: u32, place: u32) -> bool {
+    if !lines::read_line(input, sheet) {
         return false;
     }
     is_refused(sheet, number, place)
 }
 
 // The sheet that this length, number and place begin.
-fn sheet_holds(head: &[u8; 12]) -> bool {
+fn sheet_holds(input: &mut impl Read, head: &[u8; 12]) -> bool {
     let n = lines::small(sheet_layout::u32_at(head, 0));
     let number = sheet_layout::u32_at(head, 4);
     let place = sheet_layout::u32_at(head, 8);
-    let mut bytes = io::large_buffer();
-    holds(&mut bytes[..n], number, place)
+    let mut bytes = [0u8; 65536];
+    holds(input, &mut bytes[..n], number, place)
 }
 
-fn main() {
+fn main(rt: HostRuntime) -> io::Result<()> {
+    let mut input = rt.reader();
+    let mut output = io::writer(&rt);
     let mut t = lines::nothing();
     for _ in 0..1000000usize {
         let mut head = [0u8; 12];
-        if !lines::read_line(&mut head) {
+        if !lines::read_line(&mut input, &mut head) {
             break;
         }
-        t = lines::count(t, 0, sheet_holds(&head));
+        t = lines::count(t, 0, sheet_holds(&mut input, &head));
     }
-    lines::report_as(b"damaged sheets: ", b" checked, ", t, 0);
+    lines::report_as(&mut output, b"damaged sheets: ", b" checked, ", t, 0)?;
     if limits() {
-        io::write_all(STDOUT_FILENO, b"limit of V: as it should be\n");
+        output.write_all(b"limit of V: as it should be\n")?;
     }
+    Ok(())
 }

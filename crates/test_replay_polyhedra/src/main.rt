@@ -6,9 +6,10 @@
 
 ghost use Rattle.std.specs.Prelude.{◌≤◌, length};
 
-use libc::STDOUT_FILENO;
 use newtonian::{Field, Vector};
 use refusals::Refusal;
+use std::io;
+use std::io::{Read, Write};
 use test_replay::{lines, runs, vector_at, word_at};
 
 fn same_refusal(s: &[u8], k: usize, r: Refusal) -> bool
@@ -90,35 +91,38 @@ fn limits() -> bool {
 }
 
 // Reads as many bytes as `line` has, the rest of a line.
-fn rest_agrees(line: &mut [u8], v: usize, f: usize, n: usize) -> bool
+fn rest_agrees(input: &mut impl Read, line: &mut [u8], v: usize, f: usize, n: usize) -> bool
     requires { (v ≤ 1000) × (f ≤ 1000) × (n ≤ 1000) }
 {
-    if !lines::read_line(line) {
+    if !lines::read_line(input, line) {
         return false;
     }
     agrees(line, v, f, n)
 }
 
 // The line that these lengths begin.
-fn line_agrees(lengths: &[u8]) -> bool {
+fn line_agrees(input: &mut impl Read, lengths: &[u8]) -> bool {
     let v = runs::length_at(lengths, 0);
     let f = runs::length_at(lengths, 1);
     let n = runs::length_at(lengths, 2);
-    let mut bytes = io::large_buffer();
-    rest_agrees(&mut bytes[..17 * (v + f + n + 16)], v, f, n)
+    let mut bytes = [0u8; 65536];
+    rest_agrees(input, &mut bytes[..17 * (v + f + n + 16)], v, f, n)
 }
 
-fn main() {
+fn main(rt: HostRuntime) -> io::Result<()> {
+    let mut input = rt.reader();
+    let mut output = io::writer(&rt);
     let mut t = lines::nothing();
     for _ in 0..1000000usize {
         let mut lengths = [0u8; 51];
-        if !lines::read_line(&mut lengths) {
+        if !lines::read_line(&mut input, &mut lengths) {
             break;
         }
-        t = lines::count(t, 0, line_agrees(&lengths));
+        t = lines::count(t, 0, line_agrees(&mut input, &lengths));
     }
-    lines::report(b"polyhedron: ", t, 0);
+    lines::report(&mut output, b"polyhedron: ", t, 0)?;
     if limits() {
-        io::write_all(STDOUT_FILENO, b"limits of V and F: as they should be\n");
+        output.write_all(b"limits of V and F: as they should be\n")?;
     }
+    Ok(())
 }

@@ -4,6 +4,7 @@
 #![tactic(auto)]
 
 use newtonian::Field;
+use std::io;
 use test_replay::{lines, vector_at, word_at};
 
 // Whether the line's answer is the answer to its arguments.
@@ -15,14 +16,16 @@ fn agrees(s: &[u8]) -> bool {
     }
 }
 
-fn main() {
+fn main(rt: HostRuntime) -> io::Result<()> {
+    let mut input = rt.reader();
+    let mut output = io::writer(&rt);
     let mut t = lines::nothing();
     for _ in 0..1000000usize {
         let mut line = [0u8; 374];
-        if !lines::read_line(&mut line) {
+        if !lines::read_line(&mut input, &mut line) {
             break;
         }
         t = lines::count(t, 0, agrees(&line));
     }
-    lines::report(b"prism: ", t, 0);
+    lines::report(&mut output, b"prism: ", t, 0)
 }

@@ -7,8 +7,9 @@
 
 ghost use Rattle.std.specs.Prelude.{◌≡◌, ◌≤◌, length};
 
-use libc::STDOUT_FILENO;
 use refusals::Cause;
+use std::io;
+use std::io::{Read, Write};
 use test_replay::{Tally, lines, runs, word_at};
 
 // The line of a profile: eight numbers and seventeen places, each of 17 bytes.
@@ -83,23 +84,23 @@ fn agrees(body: &[u8], line: &[u8], v: usize, f: usize) -> bool
 }
 
 // The next line, a profile of the body; one that is not there differs.
-fn profile_agrees(body: &[u8], v: usize, f: usize) -> bool
+fn profile_agrees(input: &mut impl Read, body: &[u8], v: usize, f: usize) -> bool
     requires { (v ≤ 1000) × (f ≤ 1000) }
 {
     let mut line = [0u8; PROFILE_BYTES];
-    if !lines::read_line(&mut line) {
+    if !lines::read_line(input, &mut line) {
         return false;
     }
     agrees(body, &line, v, f)
 }
 
 // The profiles of a body, as many as its first line says.
-fn profiles_of(t: Tally, head: &[u8], body: &[u8]) -> Tally {
+fn profiles_of(input: &mut impl Read, t: Tally, head: &[u8], body: &[u8]) -> Tally {
     let v = runs::length_at(head, 0);
     let f = runs::length_at(head, 1);
     let mut r = t;
     for _ in 0..runs::length_at(head, 3) {
-        r = lines::count(r, 0, profile_agrees(body, v, f));
+        r = lines::count(r, 0, profile_agrees(input, body, v, f));
     }
     r
 }
@@ -113,16 +114,16 @@ fn body_length(head: &[u8]) -> usize
 }
 
 // Reads as many bytes as `body` has, a body's second line, then its profiles.
-fn body_of(t: Tally, head: &[u8], body: &mut [u8]) -> Tally {
-    if !lines::read_line(body) {
+fn body_of(input: &mut impl Read, t: Tally, head: &[u8], body: &mut [u8]) -> Tally {
+    if !lines::read_line(input, body) {
         return lines::count(t, 0, false);
     }
-    profiles_of(t, head, body)
+    profiles_of(input, t, head, body)
 }
 
-fn replay(t: Tally, head: &[u8]) -> Tally {
-    let mut bytes = io::large_buffer();
-    body_of(t, head, &mut bytes[..17 * body_length(head)])
+fn replay(input: &mut impl Read, t: Tally, head: &[u8]) -> Tally {
+    let mut bytes = [0u8; 65536];
+    body_of(input, t, head, &mut bytes[..17 * body_length(head)])
 }
 
 fn station_room() -> [f64; 196611]
@@ -173,17 +174,20 @@ fn limits() -> bool {
     zeros(60000, 98304, 196611) == 2
 }
 
-fn main() {
+fn main(rt: HostRuntime) -> io::Result<()> {
+    let mut input = rt.reader();
+    let mut output = io::writer(&rt);
     let mut t = lines::nothing();
     for _ in 0..1000000usize {
         let mut head = [0u8; 68];
-        if !lines::read_line(&mut head) {
+        if !lines::read_line(&mut input, &mut head) {
             break;
         }
-        t = replay(t, &head);
+        t = replay(&mut input, t, &head);
     }
-    lines::report(b"profile: ", t, 0);
+    lines::report(&mut output, b"profile: ", t, 0)?;
     if limits() {
-        io::write_all(STDOUT_FILENO, b"limits of V, F and S: as they should be\n");
+        output.write_all(b"limits of V, F and S: as they should be\n")?;
     }
+    Ok(())
 }

@@ -7,6 +7,8 @@
 ghost use Rattle.std.specs.Prelude.{◌≤◌, length};
 
 use sheet::Verdict;
+use std::io;
+use std::io::Read;
 use test_replay::lines;
 
 // Whether the sheet is accepted with the kind and S that stand in its trailer.
@@ -26,10 +28,10 @@ fn accepted(sheet: &[u8]) -> bool
 }
 
 // Reads as many bytes as `sheet` has.
-fn holds(sheet: &mut [u8]) -> bool
+fn holds(input: &mut impl Read, sheet: &mut [u8]) -> bool
     requires { length sheet.old ≤ 16384 }
 {
-    if !lines::read_line(sheet) {
+    if !lines::read_line(input, sheet) {
         return false;
     }
     if sheet.len() < 80 {
@@ -42,20 +44,28 @@ fn holds(sheet: &mut [u8]) -> bool
 }
 
 // The sheet that this length begins.
-fn sheet_holds(head: &[u8; 4]) -> bool {
+fn sheet_holds(input: &mut impl Read, head: &[u8; 4]) -> bool {
     let n = lines::small(sheet_layout::u32_at(head, 0));
-    let mut bytes = io::large_buffer();
-    holds(&mut bytes[..n])
+    let mut bytes = [0u8; 65536];
+    holds(input, &mut bytes[..n])
 }
 
-fn main() {
+fn main(rt: HostRuntime) -> io::Result<()> {
+    let mut input = rt.reader();
+    let mut output = io::writer(&rt);
     let mut t = lines::nothing();
     for _ in 0..1000000usize {
         let mut head = [0u8; 4];
-        if !lines::read_line(&mut head) {
+        if !lines::read_line(&mut input, &mut head) {
             break;
         }
-        t = lines::count(t, 0, sheet_holds(&head));
+        t = lines::count(t, 0, sheet_holds(&mut input, &head));
     }
-    lines::report_as(b"sheets: ", b" accepted and written anew, ", t, 0);
+    lines::report_as(
+        &mut output,
+        b"sheets: ",
+        b" accepted and written anew, ",
+        t,
+        0,
+    )
 }

@@ -7,6 +7,7 @@
 use carlson::Integral;
 use refusals::Refusal;
 use rings::{CompleteIntegrals, RingAnswer};
+use std::io;
 use test_replay::{double_at, lines, word_at};
 
 // The three numbers of an answer.
@@ -69,19 +70,21 @@ fn agrees(s: &[u8]) -> bool {
     word_at(s, 7) == a.2
 }
 
-fn main() {
+fn main(rt: HostRuntime) -> io::Result<()> {
+    let mut input = rt.reader();
+    let mut output = io::writer(&rt);
     let mut t = lines::nothing();
     for _ in 0..1000000usize {
         let mut line = [0u8; 136];
-        if !lines::read_line(&mut line) {
+        if !lines::read_line(&mut input, &mut line) {
             break;
         }
         t = lines::count(t, word_at(&line, 0), agrees(&line));
     }
-    lines::report(b"rf: ", t, 1);
-    lines::report(b"rd: ", t, 2);
-    lines::report(b"rj: ", t, 3);
-    lines::report(b"complete_elliptic: ", t, 4);
-    lines::report(b"cel: ", t, 5);
-    lines::report(b"ring: ", t, 6);
+    lines::report(&mut output, b"rf: ", t, 1)?;
+    lines::report(&mut output, b"rd: ", t, 2)?;
+    lines::report(&mut output, b"rj: ", t, 3)?;
+    lines::report(&mut output, b"complete_elliptic: ", t, 4)?;
+    lines::report(&mut output, b"cel: ", t, 5)?;
+    lines::report(&mut output, b"ring: ", t, 6)
 }

@@ -40,12 +40,10 @@ fn expected(sheet: &[u8], i: usize) -> u8 {
 
 // Whether out is the sheet and then marks.
 fn same(out: &[u8], sheet: &[u8]) -> bool {
-    let mut i = 0;
-    while i < out.len() {
+    for i in 0..out.len() {
         if out[i] != expected(sheet, i) {
             return false;
         }
-        i += 1;
     }
     true
 }

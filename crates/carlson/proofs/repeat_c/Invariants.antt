@@ -1,11 +1,8 @@
 -- `carlson::repeat_c` meets its contract. The rounds are counted in the state. Assumes nothing.
-use mathlib.Core.Path.{◌≡◌, ap}
-use Prim.Native.Nat.{◌+◌, ◌-◌}
-use native.Mathlib.Omega.{arith}
+use Prim.Native.Nat.{◌-◌}
 use Rattle.carlson.specs.CarlsonLoop.{max_rounds}
 use Rattle.carlson.specs.Rc.{test_c, duplicate_c}
-use Rattle.carlson.specs.declared.RoundC.{RoundC}
-use Rattle.carlson.proofs.RoundLoop.{After, none_yet, tested, one-round, all_made}
+use Rattle.carlson.proofs.RoundLoop.{After}
 use Rattle.carlson.proofs.repeat_c.Given as goal
 
 abbrev pub invariant-loop-t : goal.invariant-loop-t

@@ -16,10 +16,10 @@ both : {r : Rule} (n : ℕ) → r ≡ gauss_legendre n → (r ≡ gauss_legendre
 both n e = (e, ap answer_of_rule e ∙ rule_answer n)
 
 pub returns-then-n-lt1 : goal.returns-then-n-lt1
-returns-then-n-lt1 c =  let whole = both _ (c.refused.ensures ∙ sym (order-refused _ (inl (omega arith)))) in record { value = whole.0; result_value = whole.1 }
+returns-then-n-lt1 c = let whole = both _ (c.refused.ensures ∙ sym (order-refused _ (inl (omega arith)))) in record { value = whole.0; result_value = whole.1 }
 
 pub returns-then-n-gt-MAX_ORDER : goal.returns-then-n-gt-MAX_ORDER
-returns-then-n-gt-MAX_ORDER c =  let whole = both _ (c.refused-then-n-gt-MAX_ORDER.ensures ∙ sym (order-refused _ (inr (omega arith)))) in record { value = whole.0; result_value = whole.1 }
+returns-then-n-gt-MAX_ORDER c = let whole = both _ (c.refused-then-n-gt-MAX_ORDER.ensures ∙ sym (order-refused _ (inr (omega arith)))) in record { value = whole.0; result_value = whole.1 }
 
 pub overflow_mul-n : goal.overflow_mul-n
 overflow_mul-n c = let s = square c.args.order (omega arith) (omega arith) in omega (arith, entries)

@@ -1,9 +1,7 @@
 -- `legendre::padded` meets its contract. The invariant: after i turns the array holds the first i entries, and zeros after them. Assumes nothing.
-use mathlib.Core.Path.{◌≡◌, refl}
+use mathlib.Core.Path.{◌≡◌}
 use Prim.Native.Nat.{◌+◌, ◌≤◌, ◌-◌}
-use native.Mathlib.Omega.{arith}
-use Rattle.legendre.specs.GaussLegendre.{entry, zeros, padded}
-use Rattle.legendre.proofs.Entries.{entries, readable, padded-more}
+use Rattle.legendre.specs.GaussLegendre.{entry, padded}
 use Rattle.legendre.proofs.padded.Given as goal
 
 abbrev pub invariant-loop-i : goal.invariant-loop-i

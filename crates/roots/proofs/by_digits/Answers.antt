@@ -1,6 +1,6 @@
 -- `roots::by_digits` meets its contract. Assumes nothing.
-use Rattle.roots.proofs.Digits.{State, start, small, one, none, up, same}
-use Rattle.std.proofs.Common.{⊎_elim, arith}
+use Rattle.roots.proofs.Digits.{start, small, one, none, up, same}
+use Rattle.std.proofs.Common.{arith}
 use Rattle.roots.proofs.by_digits.Goals.{else-t-r, then-t-r}
 use Rattle.roots.proofs.by_digits.Goals as goal
 

@@ -1,6 +1,5 @@
 -- `roots::by_digits` meets its contract. Assumes nothing.
-use Rattle.roots.proofs.Digits.{State, start, small, one, none, up, same}
-use Rattle.std.proofs.Common.{⊎_elim, arith}
+use Rattle.roots.proofs.Digits.{State}
 use Rattle.roots.proofs.by_digits.Given as goal
 
 abbrev pub invariant-loop-i : goal.invariant-loop-i

@@ -1,5 +1,5 @@
 -- `roots::is_nearest` meets its contract: the arithmetic is in `Trial.antt`. Assumes nothing.
-use Rattle.std.proofs.Common.{arith, rules, ltb-true}
+use Rattle.std.proofs.Common.{arith, ltb-true}
 use Rattle.roots.proofs.Trial.{gh_lt, hh_lt, rest_lt, nearest}
 use Rattle.roots.proofs.is_nearest.Goals as goal
 

@@ -1,5 +1,5 @@
 -- `roots::normalised` meets its contract. Assumes nothing.
-use Rattle.std.proofs.Common.{◌^◌, ◌<◌, arith, rules}
+use Rattle.std.proofs.Common.{◌^◌, ◌<◌, arith}
 use lib.Count.{leading_le}
 use Rattle.roots.proofs.Scale.{zeros-ge, pattern_fits, normal-from, subnormal_from}
 use Rattle.roots.proofs.normalised.Goals as goal

@@ -1,5 +1,5 @@
 -- `roots::positive` meets its contract. Assumes nothing.
-use Rattle.std.proofs.Common.{le_of_lt, arith, rules}
+use Rattle.std.proofs.Common.{le_of_lt, arith}
 use Rattle.doubles.proofs.Fields.{no_nan}
 use Rattle.roots.proofs.positive.Goals as goal
 

@@ -1,5 +1,5 @@
 -- `roots::root` meets its contract: by the cases of x's bits (`Patterns.antt`). Assumes nothing.
-use Rattle.std.proofs.Common.{◌≡◌, ℕ, ◌+◌, ◌*◌, ◌%◌, ◌^◌, ◌<◌, ◌≤◌, T, ◌∙◌, pos_of_ne-zero, arith, rules}
+use Rattle.std.proofs.Common.{◌≡◌, ℕ, ◌+◌, ◌*◌, ◌%◌, ◌^◌, ◌<◌, ◌≤◌, T, ◌∙◌, pos_of_ne-zero, arith}
 use lib.Ieee.{binary64, fits, to_bits}
 use Rattle.doubles.proofs.Signs.{true→T, is_number}
 use Rattle.roots.proofs.Patterns.{root_nan, by_bits, own-zero, own_infinity, own-negative-zero, other}

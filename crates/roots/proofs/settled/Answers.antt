@@ -1,5 +1,5 @@
 -- `roots::settled` meets its contract: the arithmetic is in `Trial.antt`. Assumes nothing.
-use Rattle.std.proofs.Common.{refl, rules}
+use Rattle.std.proofs.Common.{refl}
 use Rattle.roots.proofs.Trial.{candidate}
 use Rattle.roots.proofs.settled.Goals as goal
 

@@ -1,5 +1,5 @@
 -- `roots::settled_exactly` meets its contract: the arithmetic is in `Ties.antt`. Assumes nothing.
-use Rattle.std.proofs.Common.{◌≡◌, ℕ, ◌+◌, ◌-◌, ◌*◌, ◌%◌, ◌^◌, ◌<◌, arith, rules}
+use Rattle.std.proofs.Common.{◌≡◌, ℕ, ◌+◌, ◌-◌, ◌*◌, ◌%◌, ◌^◌, ◌<◌, arith}
 use Rattle.roots.proofs.Trial.{gh_lt, hh_lt, low}
 use Rattle.roots.proofs.Ties.{lacks, least, middle, most}
 use Rattle.roots.proofs.settled_exactly.Goals as goal

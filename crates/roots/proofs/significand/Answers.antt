@@ -1,5 +1,5 @@
 -- `roots::significand` meets its contract: the digits are in `Scale.antt`. Assumes nothing.
-use Rattle.std.proofs.Common.{ℕ, ◌/◌, ◌^◌, subst, arith, rules}
+use Rattle.std.proofs.Common.{ℕ, ◌/◌, ◌^◌, subst, arith}
 use Rattle.roots.specs.NearestWhole.{Near, scaled_significand}
 use Rattle.roots.proofs.Scale.{n_range, cut_range, scaled_of, code_scaled, shift_lt, digits-fit}
 use Rattle.roots.proofs.significand.Goals as goal

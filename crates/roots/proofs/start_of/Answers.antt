@@ -1,5 +1,5 @@
 -- `roots::start_of` meets its contract. Assumes nothing.
-use Rattle.std.proofs.Common.{ℕ, ◌+◌, ◌-◌, ◌*◌, ◌/◌, ◌^◌, ◌<◌, arith, rules}
+use Rattle.std.proofs.Common.{ℕ, ◌+◌, ◌-◌, ◌*◌, ◌/◌, ◌^◌, ◌<◌, arith}
 use lib.Bits.{bit_and, mask_lt}
 use Rattle.roots.proofs.Trial.{product_fits, bend_fits, rise_fits, two_fits, sum_fits}
 use Rattle.roots.proofs.start_of.Goals as goal

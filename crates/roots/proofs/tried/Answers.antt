@@ -1,5 +1,5 @@
 -- `roots::tried` meets its contract: the arithmetic is in `Trial.antt`. Assumes nothing.
-use Rattle.std.proofs.Common.{ℕ, ◌*◌, ◌/◌, ◌^◌, ◌<◌, subst, arith, shr_lt, rules}
+use Rattle.std.proofs.Common.{ℕ, ◌*◌, ◌/◌, ◌^◌, ◌<◌, subst, arith, shr_lt}
 use lib.Bits.{bit_and, mask_lt}
 use Rattle.roots.specs.NearestWhole.{Near}
 use Rattle.roots.proofs.Trial.{mul-lt-pow, product_fits, no_wrap_high, fr_lt, sum_h_lt, h_of_lt}

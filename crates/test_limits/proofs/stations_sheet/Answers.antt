@@ -1,0 +1,10 @@
+use Rattle.std.proofs.Common.{◌≡◌, ℕ, length, sym}
+use lib.ListN.{replicate, length-replicate}
+use Rattle.test_limits.proofs.stations_sheet.Goals as goal
+
+-- of any number, so that it is not counted up to the one at hand
+zeros : (n : ℕ) → n ≡ length {A = ℕ} (replicate n 0)
+zeros n = sym (length-replicate n 0)
+
+pub returns : goal.returns
+returns c = zeros 5767576
