@@ -1,0 +1,35 @@
+-- `polyhedron_fields::answers` meets its contract: before turn j the fields of j stations are in their places. Assumes nothing.
+use mathlib.Core.Path.{◌≡◌, ◌∙◌}
+use mathlib.Core.List.{List, []}
+use Prim.Native.Nat.{ℕ, ◌+◌, ◌-◌, ◌≤◌, ◌<◌}
+use native.Mathlib.Omega.{arith}
+use lib.Ieee.{Float}
+use lib.ListN.{get_or, length, length-set}
+use Rattle.newtonian.specs.Field.{answer_of}
+use Rattle.newtonian.specs.declared.Field.{Field}
+use Rattle.newtonian.specs.declared.Vector.{Vector}
+use Rattle.polyhedron_blocks.specs.Blocks.{block_size, no_vector}
+use Rattle.polyhedron.specs.Polyhedron.{polyhedron_from}
+use Rattle.polyhedron_fields.specs.BlockFields.{no_field}
+use Rattle.polyhedron_fields.specs.Walked.{Walked}
+use Rattle.polyhedron_fields.proofs.Placing.{one_placed}
+use Rattle.polyhedron_fields.proofs.answers.Goals as goal
+
+pub loop-j-init : goal.loop-j-init
+loop-j-init c = (omega arith, c.no_fields-out.ensures, λ places d r v f keys w i l. absurd (omega arith))
+
+pub loop-j-preserved : goal.loop-j-preserved
+loop-j-preserved c =
+    let l = c.loop-j in
+    let a = c.args in
+    let t = c.loop-j-test.true in (
+      omega (arith, t),
+      length-set l.out l.j c.station_field-a.result ∙ l.invariant.1,
+      λ places d r v f keys w.
+          one_placed no_field (λ (i : ℕ) (q : Field). answer_of q ≡ polyhedron_from (a.first + i) (get_or places i no_vector) d r v f) l.j l.out c.station_field-a.result
+          (omega (arith, l.invariant.1, t, c.requires.0)) (l.invariant.2 places d r v f keys w)
+          (c.station_field-a.ensures (get_or places l.j no_vector) d r v f (get_or keys l.j []) (w.nears l.j t) (w.near_sums l.j (omega (arith, t, c.requires.0))) (w.sums_far l.j t)),
+    )
+
+pub returns : goal.returns
+returns c = λ places d r v f keys w. record { at = λ j h. c.loop-j.invariant.2 places d r v f keys w j (omega arith) }

@@ -1,0 +1,21 @@
+-- `polyhedron_fields::near_of` meets its contract. Assumes nothing.
+use mathlib.Core.Bool.{false}
+use mathlib.Core.Path.{refl}
+use Prim.Native.Nat.{◌-◌, ◌≤◌}
+use native.Mathlib.Omega.{arith}
+use lib.ListN.{get_or}
+use Rattle.polyhedron_blocks.proofs.Elements.{Filled, filled_more, filled_none}
+use Rattle.polyhedron_blocks.specs.Blocks.{block_size, no_vector}
+use Rattle.polyhedron_fields.specs.Walked.{is_near}
+use Rattle.polyhedron_fields.proofs.near_of.Goals as goal
+
+pub loop-j-init : goal.loop-j-init
+loop-j-init c = (omega arith, filled_none false _ block_size _ refl)
+
+pub loop-j-preserved : goal.loop-j-preserved
+loop-j-preserved c =
+    let l = c.loop-j in
+    (omega arith, filled_more false _ block_size l.j l.out c.is_near-b.result l.invariant.1 (omega arith) c.is_near-b.ensures)
+
+pub returns : goal.returns
+returns c = λ i h. c.loop-j.invariant.1.each i (omega arith)

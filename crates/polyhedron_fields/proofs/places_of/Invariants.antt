@@ -1,0 +1,14 @@
+-- `polyhedron_fields::places_of` meets its contract. Assumes nothing.
+use mathlib.Core.Path.{refl}
+use Prim.Native.Nat.{◌+◌, ◌-◌, ◌≤◌}
+use native.Mathlib.Omega.{arith}
+use Rattle.polyhedron_blocks.proofs.Elements.{Filled, filled_more, filled_none}
+use Rattle.polyhedron_blocks.specs.Blocks.{block_size, no_vector}
+use Rattle.mesh.specs.Surface.{vertex}
+use Rattle.polyhedron_fields.proofs.places_of.Given as goal
+
+abbrev pub invariant-loop-j : goal.invariant-loop-j
+invariant-loop-j l = (l.j ≤ l.n) × Filled no_vector (λ i. vertex l.stations (l.first + i)) block_size l.j l.out
+
+abbrev pub decreases-loop-j : goal.decreases-loop-j
+decreases-loop-j l = l.n - l.j

@@ -1,0 +1,16 @@
+-- `polyhedron_walk::none_near` meets its contract. Assumes nothing.
+use mathlib.Core.Bool.{false}
+use mathlib.Core.Path.{◌≡◌, sym}
+use Prim.Native.Nat.{ℕ, ◌-◌, ◌≤◌, ◌<◌}
+use native.Mathlib.Omega.{arith}
+use borrow.Author.Count.{below_more}
+use lib.ListN.{get_or}
+use Rattle.lists.proofs.Numbers.{true≢false}
+use Rattle.polyhedron_blocks.specs.Blocks.{block_size}
+use Rattle.polyhedron_walk.proofs.none_near.Given as goal
+
+abbrev pub invariant-loop-j : goal.invariant-loop-j
+invariant-loop-j l = (l.j ≤ block_size) × ((i : ℕ) → i < l.j → get_or l.near i false ≡ false)
+
+abbrev pub decreases-loop-j : goal.decreases-loop-j
+decreases-loop-j l = block_size - l.j
