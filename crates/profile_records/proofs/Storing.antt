@@ -6,8 +6,11 @@ use Prim.Native.Nat.{ℕ, suc, ◌+◌, ◌*◌, ◌≤◌, ◌<◌}
 use native.Mathlib.Numerals.{add-one}
 use native.Mathlib.Omega.{arith}
 use lib.Ieee.{Float}
-use lib.ListN.{drop, take}
+use lib.ListN.{drop, take, get_or}
 use lib.Seq.{drop_at, drop-drop, take_at}
+use Rattle.newtonian.specs.Field.{answer_of}
+use Rattle.newtonian.specs.declared.Field.{Field}
+use Rattle.polyhedron_fields.specs.BlockFields.{no_field}
 use Rattle.profile_records.specs.Records.{cause_of, is_refused, records, fields_after, Written, Done, Stored}
 use Rattle.profile_records.specs.RecordsLaws.{records-length, filled_is, filled-all}
 use Rattle.newtonian.specs.Vectors.{field_numbers, field_size}
@@ -51,3 +54,8 @@ module _ (a : ℕ → Answer Newtonian) where
 
   pub refused-on : (k m : ℕ) (o l : List Float) (c : Cause) (r : Refusal) → Stored a k o c l → c ≡ Refused r → k ≤ m → Stored a m o (Refused r) l
   refused-on k m o l c r s e h = record { on = λ z. absurd (let y : ◌≡◌ {A = ℕ} 0 1 = cc in omega arith); over = λ n j z. rw e at (s.over n (omega arith) (λ y. z (sym e ∙ y))) }
+
+-- what is told of the block: a gives the stations' answers, and the records before the block are written
+pub record Told (first n : ℕ) (answers : List Field) (l₀ : List Float) (a : ℕ → Answer Newtonian) (o : List Float) : Type 0 where
+  pub answered : (i : ℕ) → i < n → a (first + i) ≡ answer_of (get_or answers i no_field)
+  pub before_block : Written a first o l₀

@@ -1,0 +1,8 @@
+-- `profile::checked_profile` meets its contract: with the centroid and the radius the field is that of the checked mesh. Assumes nothing.
+use mathlib.Core.Path.{◌≡◌, ap}
+use Rattle.polyhedron.specs.Polyhedron.{polyhedron_at}
+use Rattle.profile.proofs.checked_profile.Goals as goal
+
+pub returns : goal.returns
+unfolding polyhedron_at
+returns c = rw (c.radius-r.ensures, c.centroid-c.ensures) at c.profile_fields.ensures
