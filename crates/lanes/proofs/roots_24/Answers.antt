@@ -1,5 +1,4 @@
 -- `lanes::roots_24` meets its contract. Assumes nothing.
-use Rattle.std.proofs.Common.{rules}
 use Rattle.lanes.proofs.Trying.{all_clear}
 use Rattle.lanes.proofs.roots_24.Goals as goal
 

@@ -1,14 +1,12 @@
 -- `lanes_atan2::all_within` meets its contract. Assumes nothing.
-use mathlib.Core.Path.{◌≡◌, sym, ap, ◌∙◌}
-use mathlib.Core.Bool.{true}
-use Prim.Native.Nat.{ℕ, ◌-◌, ◌≤◌, ◌<◌}
+use mathlib.Core.Path.{sym, ap, ◌∙◌}
+use Prim.Native.Nat.{◌-◌}
 use native.Mathlib.Omega.{arith}
 use borrow.Author.Count.{below_none, below_more}
 use lib.Ieee.{Float, le}
 use Rattle.doubles.specs.Constants.{1·0}
 use Rattle.doubles.specs.Magnitude.{abs}
 use Rattle.lists.proofs.Numbers.{both}
-use Rattle.lanes.specs.Lanes.{lane}
 use borrow.Author.Rules.{rules}
 use Rattle.lanes_atan2.proofs.all_within.Goals as goal
 

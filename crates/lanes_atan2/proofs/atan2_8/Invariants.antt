@@ -1,14 +1,9 @@
 -- `lanes_atan2::atan2_8` meets its contract. Assumes nothing.
-use mathlib.Core.Path.{refl, ap, ◌∙◌}
 use Prim.Native.Nat.{ℕ, ◌-◌}
-use lib.Ieee.{nan}
-use lib.ListN.{get_or-replicate}
 use Rattle.doubles.specs.Rounded.{◌⊗◌}
-use Rattle.doubles.specs.Constants.{1·0}
 use Rattle.lanes.specs.Lanes.{lane}
-use Rattle.lanes.proofs.Filling.{Filled, none_filled, one-filled, all-filled}
+use Rattle.lanes.proofs.Filling.{Filled}
 use Rattle.lanes_atan2.specs.AtanLanes.{atan_from, atan2_from}
-use Rattle.lanes_atan2.proofs.AtanLaw.{atan2-lane, atan2_parts}
 use Rattle.lanes_atan2.proofs.atan2_8.Given as goal
 
 abbrev pub invariant-loop-k : goal.invariant-loop-k

@@ -1,11 +1,9 @@
 -- `lanes_atan2::one_and_square` meets its contract. Assumes nothing.
-use mathlib.Core.Path.{refl}
 use Prim.Native.Nat.{ℕ, ◌-◌}
-use native.Mathlib.Omega.{arith}
 use Rattle.doubles.specs.Rounded.{◌⊕◌, ◌⊗◌}
 use Rattle.doubles.specs.Constants.{1·0}
 use Rattle.lanes.specs.Lanes.{lane}
-use Rattle.lanes.proofs.Filling.{Filled, none_filled, one-filled, all-filled}
+use Rattle.lanes.proofs.Filling.{Filled}
 use Rattle.lanes_atan2.proofs.one_and_square.Given as goal
 
 abbrev pub invariant-loop-k : goal.invariant-loop-k

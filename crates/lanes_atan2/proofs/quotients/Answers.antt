@@ -1,14 +1,11 @@
 -- `lanes_atan2::quotients` meets its contract. Assumes nothing.
-use mathlib.Core.Path.{◌≡◌, refl}
+use mathlib.Core.Path.{refl}
 use mathlib.Core.Bool.{true}
-use Prim.Native.Nat.{ℕ, ◌-◌, ◌<◌}
+use Prim.Native.Nat.{◌-◌}
 use native.Mathlib.Omega.{arith}
 use borrow.Author.Count.{below_none, below_more}
-use Rattle.doubles.specs.Rounded.{◌⊘◌}
 use Rattle.lists.proofs.Numbers.{both}
-use Rattle.lanes.specs.Lanes.{lane}
-use Rattle.lanes.proofs.Filling.{Filled, none_filled, one-filled, all-filled}
-use Rattle.lanes_atan2.specs.AtanLanes.{Proper}
+use Rattle.lanes.proofs.Filling.{none_filled, one-filled, all-filled}
 use Rattle.lanes_atan2.proofs.quotients.Goals as goal
 
 pub loop-k-init : goal.loop-k-init

@@ -1,13 +1,8 @@
 -- `lanes_atan2::reduce` meets its contract. Assumes nothing.
-use mathlib.Core.Path.{ap, ◌∙◌}
-use mathlib.Core.List.{List}
 use Prim.Native.Nat.{ℕ, ◌-◌}
-use lib.Ieee.{Float}
-use lib.ListN.{length}
 use Rattle.lanes.specs.Lanes.{lane}
 use Rattle.lanes_atan2.specs.AtanLanes.{reduced}
-use Rattle.lanes.proofs.Filling.{Filled, none_filled, one-filled, all-filled}
-use Rattle.lanes_atan2.proofs.AtanLaw.{reduced-within, reduced-is}
+use Rattle.lanes.proofs.Filling.{Filled}
 use Rattle.lanes_atan2.proofs.reduce.Given as goal
 
 abbrev pub invariant-loop-k : goal.invariant-loop-k

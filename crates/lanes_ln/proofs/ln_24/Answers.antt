@@ -1,10 +1,7 @@
 -- `lanes_ln::ln_24` meets its contract. Assumes nothing.
 use mathlib.Core.Path.{refl, ◌∙◌}
-use Prim.Native.Nat.{ℕ, ◌-◌}
-use Rattle.doubles.specs.Rounded.{◌⊕◌, ◌⊖◌, ◌⊗◌}
-use Rattle.doubles.specs.Constants.{1·0, LN2}
-use Rattle.lanes.specs.Lanes.{lane}
-use Rattle.lanes.proofs.Filling.{Filled, none_filled, one-filled, all-filled}
+use Prim.Native.Nat.{◌-◌}
+use Rattle.lanes.proofs.Filling.{none_filled, one-filled, all-filled}
 use Rattle.lanes_ln.proofs.LnLaw.{ln-lane, ln_parts}
 use Rattle.lanes_ln.proofs.ln_24.Goals as goal
 

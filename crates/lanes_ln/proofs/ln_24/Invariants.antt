@@ -1,11 +1,9 @@
 -- `lanes_ln::ln_24` meets its contract. Assumes nothing.
-use mathlib.Core.Path.{refl, ◌∙◌}
 use Prim.Native.Nat.{ℕ, ◌-◌}
 use Rattle.doubles.specs.Rounded.{◌⊕◌, ◌⊖◌, ◌⊗◌}
 use Rattle.doubles.specs.Constants.{1·0, LN2}
 use Rattle.lanes.specs.Lanes.{lane}
-use Rattle.lanes.proofs.Filling.{Filled, none_filled, one-filled, all-filled}
-use Rattle.lanes_ln.proofs.LnLaw.{ln-lane, ln_parts}
+use Rattle.lanes.proofs.Filling.{Filled}
 use Rattle.lanes_ln.proofs.ln_24.Given as goal
 
 abbrev pub invariant-loop-k : goal.invariant-loop-k

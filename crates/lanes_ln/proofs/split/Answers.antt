@@ -1,16 +1,15 @@
 -- `lanes_ln::split` meets its contract. Assumes nothing.
-use mathlib.Core.Path.{◌≡◌, ap, ◌∙◌}
+use mathlib.Core.Path.{ap, ◌∙◌}
 use mathlib.Core.Bool.{true}
-use Prim.Native.Nat.{ℕ, ◌-◌, ◌<◌}
+use Prim.Native.Nat.{◌-◌}
 use native.Mathlib.Omega.{arith}
 use borrow.Author.Count.{below_none, below_more}
 use lib.Ieee.{Float}
 use Rattle.doubles.specs.Rounded.{◌⊗◌}
 use Rattle.carlson.specs.Logarithm.{midpoint}
 use Rattle.lists.proofs.Numbers.{both}
-use Rattle.lanes.specs.Lanes.{lane}
-use Rattle.lanes.proofs.Filling.{Filled, none_filled, one-filled, all-filled}
-use Rattle.lanes_ln.specs.LnLanes.{Normal, scale_of, fraction_of, scale_at, fraction_at, square_at}
+use Rattle.lanes.proofs.Filling.{none_filled, one-filled, all-filled}
+use Rattle.lanes_ln.specs.LnLanes.{scale_of, fraction_of}
 use Rattle.lanes_ln.proofs.split.Goals as goal
 
 pub loop-k-init : goal.loop-k-init

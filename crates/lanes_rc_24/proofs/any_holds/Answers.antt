@@ -1,11 +1,8 @@
 -- `lanes_rc_24::any_holds` meets its contract. Assumes nothing.
-use mathlib.Core.Path.{◌≡◌, sym, ◌∙◌}
-use mathlib.Core.Bool.{false}
-use Prim.Native.Nat.{ℕ, ◌-◌, ◌≤◌, ◌<◌}
+use mathlib.Core.Path.{sym, ◌∙◌}
+use Prim.Native.Nat.{◌-◌}
 use native.Mathlib.Omega.{arith}
 use borrow.Author.Count.{below_none, below_more}
-use Rattle.carlson.specs.CarlsonLoop.{loop_test}
-use Rattle.lanes.specs.Lanes.{lane}
 use Rattle.lanes_rc.proofs.AllLanes.{neither}
 use borrow.Author.Rules.{rules}
 use Rattle.lanes_rc_24.proofs.any_holds.Goals as goal

@@ -1,12 +1,10 @@
 -- `lanes_rc_24::endings` meets its contract. Assumes nothing.
 use mathlib.Core.Path.{ap₂}
-use Prim.Native.Nat.{ℕ, ◌-◌}
+use Prim.Native.Nat.{◌-◌}
 use native.Mathlib.Omega.{arith}
 use lib.Ieee.{Float}
 use Rattle.doubles.specs.Rounded.{◌⊘◌}
-use Rattle.lanes.specs.Lanes.{lane}
-use Rattle.lanes.proofs.Filling.{Filled, none_filled, one-filled, all-filled}
-use Rattle.lanes_rc.specs.LaneRounds.{ending}
+use Rattle.lanes.proofs.Filling.{none_filled, one-filled, all-filled}
 use Rattle.lanes_rc_24.proofs.endings.Goals as goal
 
 pub loop-k-init : goal.loop-k-init

@@ -1,9 +1,7 @@
 -- `lanes_rc_24::rounds` meets its contract. Assumes nothing.
 use Prim.Native.Nat.{◌-◌}
-use native.Mathlib.Omega.{arith}
-use borrow.Author.Tests.{not-true}
 use Rattle.carlson.specs.CarlsonLoop.{max_rounds}
-use Rattle.lanes_rc.proofs.AllLanes.{Made, none_made, one_made, all_still, all_made}
+use Rattle.lanes_rc.proofs.AllLanes.{Made}
 use Rattle.lanes_rc_24.proofs.rounds.Given as goal
 
 abbrev pub invariant-loop-n : goal.invariant-loop-n

@@ -1,13 +1,8 @@
 -- `lanes_rc_24::starts` meets its contract. Assumes nothing.
-use mathlib.Core.Path.{refl, ap}
 use Prim.Native.Nat.{ℕ, ◌-◌}
-use native.Mathlib.Omega.{arith}
-use lib.Ieee.{Float}
-use Rattle.doubles.specs.Rounded.{◌⊗◌}
-use Rattle.carlson.specs.Constants.{[3ε]^-⅛}
 use Rattle.carlson.specs.Rc.{A₀C, QC}
 use Rattle.lanes.specs.Lanes.{lane}
-use Rattle.lanes.proofs.Filling.{Filled, none_filled, one-filled, all-filled}
+use Rattle.lanes.proofs.Filling.{Filled}
 use Rattle.lanes_rc_24.proofs.starts.Given as goal
 
 abbrev pub invariant-loop-k : goal.invariant-loop-k

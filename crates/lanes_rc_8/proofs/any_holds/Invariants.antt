@@ -1,12 +1,9 @@
 -- `lanes_rc_8::any_holds` meets its contract. Assumes nothing.
-use mathlib.Core.Path.{◌≡◌, sym, ◌∙◌}
+use mathlib.Core.Path.{◌≡◌}
 use mathlib.Core.Bool.{false}
 use Prim.Native.Nat.{ℕ, ◌-◌, ◌≤◌, ◌<◌}
-use native.Mathlib.Omega.{arith}
-use borrow.Author.Count.{below_none, below_more}
 use Rattle.carlson.specs.CarlsonLoop.{loop_test}
 use Rattle.lanes.specs.Lanes.{lane}
-use Rattle.lanes_rc.proofs.AllLanes.{neither}
 use Rattle.lanes_rc_8.proofs.any_holds.Given as goal
 
 abbrev pub invariant-loop-k : goal.invariant-loop-k

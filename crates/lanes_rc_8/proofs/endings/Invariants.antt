@@ -1,11 +1,7 @@
 -- `lanes_rc_8::endings` meets its contract. Assumes nothing.
-use mathlib.Core.Path.{ap₂}
 use Prim.Native.Nat.{ℕ, ◌-◌}
-use native.Mathlib.Omega.{arith}
-use lib.Ieee.{Float}
-use Rattle.doubles.specs.Rounded.{◌⊘◌}
 use Rattle.lanes.specs.Lanes.{lane}
-use Rattle.lanes.proofs.Filling.{Filled, none_filled, one-filled, all-filled}
+use Rattle.lanes.proofs.Filling.{Filled}
 use Rattle.lanes_rc.specs.LaneRounds.{ending}
 use Rattle.lanes_rc_8.proofs.endings.Given as goal
 

@@ -1,9 +1,9 @@
 -- `lanes_rc_8::round` meets its contract. Assumes nothing.
-use Prim.Native.Nat.{ℕ, ◌-◌, ◌<◌}
+use Prim.Native.Nat.{◌-◌, ◌<◌}
 use native.Mathlib.Nat.{le_refl}
 use native.Mathlib.Omega.{arith}
-use Rattle.lanes.proofs.Filling.{Filled, none_filled, one-filled, all-filled}
-use Rattle.lanes_rc.specs.LaneRounds.{after_one, start}
+use Rattle.lanes.proofs.Filling.{none_filled, one-filled, all-filled}
+use Rattle.lanes_rc.specs.LaneRounds.{start}
 use Rattle.lanes_rc.proofs.OneLane.{Reads, round_x, round_y, round_a, round_f}
 use Rattle.lanes_rc_8.proofs.round.Goals as goal
 

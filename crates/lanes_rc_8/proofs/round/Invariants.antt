@@ -1,10 +1,7 @@
 -- `lanes_rc_8::round` meets its contract. Assumes nothing.
-use Prim.Native.Nat.{ℕ, ◌-◌, ◌<◌}
-use native.Mathlib.Nat.{le_refl}
-use native.Mathlib.Omega.{arith}
-use Rattle.lanes.proofs.Filling.{Filled, none_filled, one-filled, all-filled}
-use Rattle.lanes_rc.specs.LaneRounds.{after_one, start}
-use Rattle.lanes_rc.proofs.OneLane.{Reads, round_x, round_y, round_a, round_f}
+use Prim.Native.Nat.{ℕ, ◌-◌}
+use Rattle.lanes.proofs.Filling.{Filled}
+use Rattle.lanes_rc.specs.LaneRounds.{after_one}
 use Rattle.lanes_rc_8.proofs.round.Given as goal
 
 abbrev pub invariant-loop-k : goal.invariant-loop-k

@@ -10,11 +10,11 @@ use Rattle.mesh_check.proofs.Answers.{solid-answer, not-counted, out-of-limits, 
 use Rattle.mesh_check.proofs.check_mesh.Goals as goal
 
 pub returns-in-Refused : goal.returns-in-Refused
-returns-in-Refused c =  let whole = not-counted c.args.verts.now c.args.faces.now c.args.work.now c.in-Refused.r (sym c.count_cause-counts.ensures ∙ c.in-Refused.is) in record { result_value = whole.0; work_after = whole.1 }
+returns-in-Refused c = let whole = not-counted c.args.verts.now c.args.faces.now c.args.work.now c.in-Refused.r (sym c.count_cause-counts.ensures ∙ c.in-Refused.is) in record { result_value = whole.0; work_after = whole.1 }
 
 pub returns-in-Refused-numbers : goal.returns-in-Refused-numbers
 returns-in-Refused-numbers c =
-     let whole = out-of-limits c.args.verts.now c.args.faces.now c.args.work.now (sym c.count_cause-counts.ensures ∙ c.in_default.is)
+    let whole = out-of-limits c.args.verts.now c.args.faces.now c.args.work.now (sym c.count_cause-counts.ensures ∙ c.in_default.is)
     c.in-Refused-numbers.r (sym c.out_of_limits-numbers.ensures ∙ c.in-Refused-numbers.is) in record { result_value = whole.0; work_after = whole.1 }
 
 pub check_surface-requires : goal.check_surface-requires

@@ -1,7 +1,6 @@
 -- `mesh_check::check_surface` meets its contract: no bytes are lent for the mates. Assumes nothing.
 use mathlib.Core.Path.{refl}
 use mathlib.Core.Logic.{inl}
-use native.Mathlib.Omega.{arith}
 use Rattle.mesh_check.proofs.check_surface.Goals as goal
 
 pub returns : goal.returns

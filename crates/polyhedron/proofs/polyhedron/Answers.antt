@@ -6,7 +6,7 @@ use Rattle.polyhedron.proofs.Answers.{not-given, counted, not-accepted, Success,
 use Rattle.polyhedron.proofs.polyhedron.Goals as goal
 
 pub returns-in-Refused : goal.returns-in-Refused
-returns-in-Refused c =  let whole = not-given c.args.station c.args.verts.now c.args.faces.now c.args.work.now c.in-Refused.r (sym c.given_cause-given.ensures ∙ c.in-Refused.is) in record { result_value = whole.0; work_after = whole.1 }
+returns-in-Refused c = let whole = not-given c.args.station c.args.verts.now c.args.faces.now c.args.work.now c.in-Refused.r (sym c.given_cause-given.ensures ∙ c.in-Refused.is) in record { result_value = whole.0; work_after = whole.1 }
 
 pub check_surface-surface-requires : goal.check_surface-surface-requires
 check_surface-surface-requires c = counted c.args.station c.args.verts.now c.args.faces.now c.args.work.now (sym c.given_cause-given.ensures ∙ c.in_default.is)
@@ -42,4 +42,4 @@ returns c =
     let accepted : Success c.args.station c.args.verts.now c.args.faces.now c.args.work.now c.check_surface-surface.new.work = let k = c.check_surface-surface in
     success c.args.station c.args.verts.now c.args.faces.now c.args.work.now (sym c.given_cause-given.ensures ∙ c.in_default.is)
     k.new.work k.ensures.work_after c.in_default-surface.field-0 (sym k.ensures.value ∙ c.in_default-surface.is) in
-     let whole = accepted.answered _ c.single_point.ensures in record { result_value = whole.0; work_after = whole.1 }
+    let whole = accepted.answered _ c.single_point.ensures in record { result_value = whole.0; work_after = whole.1 }

@@ -1,13 +1,8 @@
 -- `polyhedron_centroid::farthest` meets its contract. Assumes nothing.
-use mathlib.Core.Path.{◌≡◌, ap, ◌∙◌}
-use mathlib.Core.Logic.{⊎_elim}
-use Prim.Native.Nat.{ℕ, ◌+◌, ◌≤◌, ◌-◌}
-use native.Mathlib.Omega.{arith}
-use lib.ListN.{length, get_or}
-use Rattle.mesh_orders.specs.EdgeLaws.{small-from}
-use Rattle.mesh_orders.specs.OrderLaws.{order-length}
+use Prim.Native.Nat.{◌≤◌, ◌-◌}
+use lib.ListN.{length}
 use Rattle.mesh.specs.Surface.{vertex_count}
-use Rattle.polyhedron_centroid.proofs.Passes.{met, Passed, placed, met-below, begin, skipped, taken, finish}
+use Rattle.polyhedron_centroid.proofs.Passes.{Passed}
 use Rattle.doubles.specs.Constants.{0·0}
 use Rattle.polyhedron_centroid.specs.Centroid.{farther}
 use Rattle.polyhedron_centroid.proofs.farthest.Given as goal

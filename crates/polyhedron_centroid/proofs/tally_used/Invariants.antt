@@ -1,15 +1,9 @@
 -- `polyhedron_centroid::tally_used` meets its contract. Assumes nothing.
-use mathlib.Core.Path.{◌≡◌, sym, ap, subst, ◌∙◌}
-use mathlib.Core.Logic.{⊎_elim}
-use Prim.Native.Nat.{ℕ, ◌+◌, ◌≤◌, ◌-◌}
-use native.Mathlib.Omega.{arith}
-use lib.ListN.{length, get_or}
-use Rattle.mesh_orders.specs.EdgeLaws.{small-from}
-use Rattle.mesh_orders.specs.OrderLaws.{order-length}
+use Prim.Native.Nat.{◌≤◌, ◌-◌}
+use lib.ListN.{length}
 use Rattle.mesh.specs.Surface.{vertex_count}
-use Rattle.polyhedron_centroid.proofs.Passes.{met, Passed, placed, met-below, begin, skipped, taken, finish}
-use Rattle.polyhedron_centroid.specs.Centroid.{no_tally, add_vertex, tally_used}
-use Rattle.polyhedron_centroid.specs.declared.Tally.{Tally}
+use Rattle.polyhedron_centroid.proofs.Passes.{Passed}
+use Rattle.polyhedron_centroid.specs.Centroid.{no_tally, add_vertex}
 use Rattle.polyhedron_centroid.proofs.tally_used.Given as goal
 
 abbrev pub invariant-loop-i : goal.invariant-loop-i

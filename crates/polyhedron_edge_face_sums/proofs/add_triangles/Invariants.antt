@@ -1,10 +1,6 @@
 -- `polyhedron_edge_face_sums::add_triangles` meets its contract: the sums so far are the fold so far. Assumes nothing.
-use mathlib.Core.Path.{◌≡◌}
-use Prim.Native.Nat.{◌+◌, ◌-◌, ◌≤◌, ◌<◌}
-use native.Mathlib.Omega.{arith}
+use Prim.Native.Nat.{◌-◌, ◌≤◌}
 use Rattle.polyhedron_edge_face_sums.specs.Carried.{Adds}
-use Rattle.mesh.specs.Surface.{face_count}
-use Rattle.newtonian.specs.Fold.{Fold, fold_more}
 use Rattle.polyhedron_on_edge.specs.Block.{Sized}
 use Rattle.polyhedron_edge_face_sums.proofs.add_triangles.Given as goal
 

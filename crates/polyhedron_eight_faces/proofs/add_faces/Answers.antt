@@ -1,9 +1,8 @@
 -- `polyhedron_eight_faces::add_faces` meets its contract. Assumes nothing.
 use mathlib.Core.Path.{◌≡◌}
-use Prim.Native.Nat.{◌≤◌, ◌-◌}
+use Prim.Native.Nat.{◌-◌}
 use native.Mathlib.Omega.{arith}
-use Rattle.newtonian.specs.Fold.{Fold, fold-none, fold_more}
-use Rattle.polyhedron_eight_faces.specs.EightFaces.{add_face_at}
+use Rattle.newtonian.specs.Fold.{fold-none, fold_more}
 use borrow.Author.Rules.{rules}
 use Rattle.polyhedron_eight_faces.proofs.add_faces.Goals as goal
 

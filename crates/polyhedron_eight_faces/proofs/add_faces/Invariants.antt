@@ -1,8 +1,7 @@
 -- `polyhedron_eight_faces::add_faces` meets its contract. Assumes nothing.
 use mathlib.Core.Path.{◌≡◌}
 use Prim.Native.Nat.{◌≤◌, ◌-◌}
-use native.Mathlib.Omega.{arith}
-use Rattle.newtonian.specs.Fold.{Fold, fold-none, fold_more}
+use Rattle.newtonian.specs.Fold.{Fold}
 use Rattle.polyhedron_eight_faces.specs.EightFaces.{add_face_at}
 use Rattle.polyhedron_eight_faces.proofs.add_faces.Given as goal
 

@@ -1,10 +1,9 @@
 -- `polyhedron_faces::raw_sides_8` meets its contract. Assumes nothing.
 use mathlib.Core.Path.{◌≡◌, ap, ◌∙◌}
-use Prim.Native.Nat.{ℕ, ◌+◌, ◌-◌, ◌%◌, ◌<◌}
+use Prim.Native.Nat.{◌+◌, ◌-◌, ◌%◌, ◌<◌}
 use native.Mathlib.Omega.{arith}
 use Rattle.newtonian.specs.Vectors.{cross}
 use Rattle.newtonian.specs.declared.Vector.{Vector}
-use Rattle.lanes.proofs.Filling.{Filled}
 use Rattle.polyhedron_faces.specs.Parts.{edge_at, raw_side, square}
 use Rattle.polyhedron_faces.proofs.SidesMade.{edge-is, side_is}
 use Rattle.polyhedron_faces.proofs.FillingRows.{row_begins, row_ends, row_goes_on}

@@ -1,10 +1,7 @@
 -- `polyhedron_faces::units_24` meets its contract. Assumes nothing.
-use Prim.Native.Nat.{ℕ, ◌-◌}
+use Prim.Native.Nat.{◌-◌}
 use native.Mathlib.Omega.{arith}
-use Rattle.newtonian.specs.Vectors.{over}
-use Rattle.lanes.specs.Lanes.{lane}
-use Rattle.polyhedron_faces.specs.Faces.{vector_at}
-use Rattle.polyhedron_faces.proofs.FillingVectors.{FilledVectors, all_vectors, no_vectors, one-over}
+use Rattle.polyhedron_faces.proofs.FillingVectors.{all_vectors, no_vectors, one-over}
 use Rattle.polyhedron_faces.proofs.units_24.Goals as goal
 
 pub loop-k-init : goal.loop-k-init

@@ -1,15 +1,11 @@
 -- `polyhedron_far::add_by_lanes` meets its contract. Assumes nothing.
 use mathlib.Core.List.{List}
-use mathlib.Core.Path.{ap, ◌∙◌}
-use Prim.Native.Nat.{ℕ, ◌-◌, ◌≤◌, ◌<◌}
-use native.Mathlib.Omega.{arith}
+use Prim.Native.Nat.{ℕ, ◌-◌, ◌≤◌}
 use Rattle.newtonian.specs.Vectors.{field_numbers}
-use Rattle.newtonian.specs.declared.Newtonian.{Newtonian}
 use Rattle.polyhedron_neumaier.specs.Neumaier.{add_terms}
 use Rattle.polyhedron_neumaier.specs.declared.Pair.{Pair}
 use Rattle.polyhedron_far_lanes.specs.EightFields.{field_at}
-use Rattle.polyhedron_far.specs.Far.{sums_at}
-use Rattle.polyhedron_far.proofs.Stations.{Upto, all-stations, no_station, one-station, same_sums}
+use Rattle.polyhedron_far.proofs.Stations.{Upto}
 use Rattle.polyhedron_far.proofs.add_by_lanes.Given as goal
 
 abbrev pub invariant-loop-i : goal.invariant-loop-i

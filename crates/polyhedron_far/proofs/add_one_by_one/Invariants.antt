@@ -1,13 +1,12 @@
 -- `polyhedron_far::add_one_by_one` meets its contract. Assumes nothing.
 use mathlib.Core.List.{List}
 use Prim.Native.Nat.{ℕ, ◌-◌, ◌≤◌}
-use native.Mathlib.Omega.{arith}
 use Rattle.newtonian.specs.Vectors.{field_numbers}
 use Rattle.polyhedron_neumaier.specs.Neumaier.{add_terms}
 use Rattle.polyhedron_neumaier.specs.declared.Pair.{Pair}
 use Rattle.polyhedron_far_points.specs.Tetrahedral.{points_field}
 use Rattle.polyhedron_far_lanes.specs.EightFields.{place_at}
-use Rattle.polyhedron_far.proofs.Stations.{Upto, all-stations, no_station, one-station}
+use Rattle.polyhedron_far.proofs.Stations.{Upto}
 use Rattle.polyhedron_far.proofs.add_one_by_one.Given as goal
 
 abbrev pub invariant-loop-i : goal.invariant-loop-i

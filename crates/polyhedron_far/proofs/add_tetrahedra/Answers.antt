@@ -1,12 +1,9 @@
 -- `polyhedron_far::add_tetrahedra` meets its contract. Assumes nothing.
 use mathlib.Core.Path.{◌≡◌}
-use Prim.Native.Nat.{ℕ, ◌+◌, ◌-◌, ◌≤◌}
+use Prim.Native.Nat.{ℕ, ◌+◌, ◌-◌}
 use native.Mathlib.Omega.{arith}
-use Rattle.newtonian.specs.Fold.{Fold}
 use Rattle.polyhedron_tetrahedra.specs.Tetrahedra.{add_tetrahedron}
-use Rattle.polyhedron_far_points.specs.Tetrahedral.{Room}
 use Rattle.polyhedron_far_lanes.specs.EightFields.{place_at}
-use Rattle.polyhedron_far.specs.Far.{FarSums}
 use Rattle.polyhedron_far.proofs.Stations.{no_face, one-face}
 use Rattle.polyhedron_far.proofs.add_tetrahedra.Goals as goal
 

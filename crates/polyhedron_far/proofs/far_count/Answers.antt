@@ -1,11 +1,9 @@
 -- `polyhedron_far::far_count` meets its contract. Assumes nothing.
-use mathlib.Core.Path.{◌≡◌}
 use mathlib.Core.Bool.{false, true}
-use Prim.Native.Nat.{ℕ, ◌-◌, ◌≤◌, ◌<◌}
+use Prim.Native.Nat.{◌-◌}
 use native.Mathlib.Nat.{not-suc-le-zero}
 use native.Mathlib.Omega.{arith}
 use borrow.Author.Count.{below_more}
-use lib.ListN.{get_or}
 use Rattle.polyhedron_far.proofs.far_count.Goals as goal
 
 pub loop-i-init : goal.loop-i-init

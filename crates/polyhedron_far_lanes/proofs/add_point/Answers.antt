@@ -1,13 +1,11 @@
 -- `polyhedron_far_lanes::add_point` meets its contract. Assumes nothing.
 use mathlib.Core.Path.{sym, ap, ap₂, ◌∙◌}
-use Prim.Native.Nat.{ℕ, ◌+◌, ◌-◌, ◌≤◌, ◌<◌}
+use Prim.Native.Nat.{◌+◌, ◌-◌, ◌<◌}
 use native.Mathlib.Omega.{arith}
 use Rattle.newtonian.specs.Point.{add_point}
 use Rattle.newtonian.specs.Vectors.{difference, dot}
 use Rattle.newtonian.specs.declared.Vector.{Vector}
-use Rattle.polyhedron_far_points.specs.Tetrahedral.{point_at}
-use Rattle.polyhedron_far_lanes.specs.EightFields.{field_at}
-use Rattle.polyhedron_far_lanes.proofs.Putting.{Upto, all-fields, no_fields, one_field}
+use Rattle.polyhedron_far_lanes.proofs.Putting.{all-fields, no_fields, one_field}
 use Rattle.polyhedron_far_lanes.proofs.add_point.Goals as goal
 
 pub loop-k-init : goal.loop-k-init

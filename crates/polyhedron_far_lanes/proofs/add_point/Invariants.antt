@@ -1,13 +1,10 @@
 -- `polyhedron_far_lanes::add_point` meets its contract. Assumes nothing.
-use mathlib.Core.Path.{sym, ap, ap₂, ◌∙◌}
-use Prim.Native.Nat.{ℕ, ◌+◌, ◌-◌, ◌≤◌, ◌<◌}
-use native.Mathlib.Omega.{arith}
+use Prim.Native.Nat.{ℕ, ◌-◌, ◌≤◌}
 use Rattle.newtonian.specs.Point.{add_point}
-use Rattle.newtonian.specs.Vectors.{difference, dot}
-use Rattle.newtonian.specs.declared.Vector.{Vector}
+use Rattle.newtonian.specs.Vectors.{difference}
 use Rattle.polyhedron_far_points.specs.Tetrahedral.{point_at}
 use Rattle.polyhedron_far_lanes.specs.EightFields.{field_at}
-use Rattle.polyhedron_far_lanes.proofs.Putting.{Upto, all-fields, no_fields, one_field}
+use Rattle.polyhedron_far_lanes.proofs.Putting.{Upto}
 use Rattle.polyhedron_far_lanes.proofs.add_point.Given as goal
 
 abbrev pub invariant-loop-k : goal.invariant-loop-k

@@ -1,8 +1,7 @@
 -- `polyhedron_far_lanes::axes` meets its contract. Assumes nothing.
 use mathlib.Core.Path.{refl}
-use Prim.Native.Nat.{ℕ, ◌-◌}
-use Rattle.lanes.proofs.Filling.{Filled, all-filled, none_filled, one-filled}
-use Rattle.polyhedron_far_lanes.specs.EightFields.{place_at}
+use Prim.Native.Nat.{◌-◌}
+use Rattle.lanes.proofs.Filling.{all-filled, none_filled, one-filled}
 use Rattle.polyhedron_far_lanes.proofs.axes.Goals as goal
 
 pub loop-k-init : goal.loop-k-init

@@ -1,7 +1,6 @@
 -- `polyhedron_far_lanes::axes` meets its contract. Assumes nothing.
-use mathlib.Core.Path.{refl}
 use Prim.Native.Nat.{ℕ, ◌-◌}
-use Rattle.lanes.proofs.Filling.{Filled, all-filled, none_filled, one-filled}
+use Rattle.lanes.proofs.Filling.{Filled}
 use Rattle.polyhedron_far_lanes.specs.EightFields.{place_at}
 use Rattle.polyhedron_far_lanes.proofs.axes.Given as goal
 

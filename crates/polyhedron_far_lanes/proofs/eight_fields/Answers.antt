@@ -1,12 +1,9 @@
 -- `polyhedron_far_lanes::eight_fields` meets its contract. Assumes nothing.
-use mathlib.Core.Path.{◌≡◌, refl}
-use Prim.Native.Nat.{ℕ, ◌*◌, ◌-◌, ◌≤◌}
+use mathlib.Core.Path.{refl}
+use Prim.Native.Nat.{ℕ, ◌-◌}
 use native.Mathlib.Omega.{arith}
-use lib.ListN.{length}
-use Rattle.newtonian.specs.Fold.{Fold}
 use Rattle.newtonian.specs.Vectors.{zero_field}
 use Rattle.polyhedron_far_points.specs.Tetrahedral.{point_at, point_step}
-use Rattle.polyhedron_far_lanes.specs.EightFields.{Fields}
 use Rattle.polyhedron_far_lanes.proofs.Threes.{all-points, no_three, three_more}
 use Rattle.polyhedron_far_lanes.proofs.eight_fields.Goals as goal
 

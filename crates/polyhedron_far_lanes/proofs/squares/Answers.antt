@@ -1,10 +1,10 @@
 -- `polyhedron_far_lanes::squares` meets its contract. Assumes nothing.
 use mathlib.Core.Path.{ap, ◌∙◌}
-use Prim.Native.Nat.{◌-◌, ◌≤◌}
+use Prim.Native.Nat.{◌-◌}
 use native.Mathlib.Omega.{arith}
 use Rattle.newtonian.specs.Vectors.{dot}
 use Rattle.newtonian.specs.declared.Vector.{Vector}
-use Rattle.polyhedron_far_lanes.proofs.Threes.{SquaresUpto, no_squares, one-square}
+use Rattle.polyhedron_far_lanes.proofs.Threes.{no_squares, one-square}
 use Rattle.polyhedron_far_lanes.proofs.squares.Goals as goal
 
 pub loop-k-init : goal.loop-k-init

@@ -1,10 +1,6 @@
 -- `polyhedron_far_lanes::squares` meets its contract. Assumes nothing.
-use mathlib.Core.Path.{ap, ◌∙◌}
 use Prim.Native.Nat.{◌-◌, ◌≤◌}
-use native.Mathlib.Omega.{arith}
-use Rattle.newtonian.specs.Vectors.{dot}
-use Rattle.newtonian.specs.declared.Vector.{Vector}
-use Rattle.polyhedron_far_lanes.proofs.Threes.{SquaresUpto, no_squares, one-square}
+use Rattle.polyhedron_far_lanes.proofs.Threes.{SquaresUpto}
 use Rattle.polyhedron_far_lanes.proofs.squares.Given as goal
 
 abbrev pub invariant-loop-k : goal.invariant-loop-k

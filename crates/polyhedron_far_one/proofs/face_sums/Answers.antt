@@ -1,21 +1,16 @@
 -- `polyhedron_far_one::face_sums` meets its contract. Assumes nothing.
 use mathlib.Core.Path.{◌≡◌}
-use Prim.Native.Nat.{◌-◌, ◌≤◌}
+use Prim.Native.Nat.{◌-◌}
 use native.Mathlib.Omega.{arith}
-use Rattle.newtonian.specs.Fold.{Fold, fold_more, fold-none}
+use Rattle.newtonian.specs.Fold.{fold_more, fold-none}
 use Rattle.mesh.specs.Surface.{face_count}
-use Rattle.polyhedron_neumaier.specs.Neumaier.{no_sums}
-use Rattle.polyhedron_tetrahedra.specs.Tetrahedra.{add_tetrahedron}
-use Rattle.polyhedron_far_points.specs.Tetrahedral.{Room}
 use Rattle.polyhedron_far_one.proofs.face_sums.Goals as goal
 
 pub loop-k-init : goal.loop-k-init
-loop-k-init c =
-    (
+loop-k-init c = (
   omega arith,
   record { of_x = c.room-x.ensures; of_y = c.room-y.ensures; of_z = c.room-z.ensures; of_w = c.room-w.ensures },
   rw fold-none c.no_sums-sums.ensures,
-
 )
 
 pub add_tetrahedron-next-requires : goal.add_tetrahedron-next-requires

@@ -1,8 +1,7 @@
 -- `polyhedron_far_one::face_sums` meets its contract. Assumes nothing.
 use mathlib.Core.Path.{◌≡◌}
 use Prim.Native.Nat.{◌-◌, ◌≤◌}
-use native.Mathlib.Omega.{arith}
-use Rattle.newtonian.specs.Fold.{Fold, fold_more, fold-none}
+use Rattle.newtonian.specs.Fold.{Fold}
 use Rattle.mesh.specs.Surface.{face_count}
 use Rattle.polyhedron_neumaier.specs.Neumaier.{no_sums}
 use Rattle.polyhedron_tetrahedra.specs.Tetrahedra.{add_tetrahedron}

@@ -1,10 +1,7 @@
 -- `polyhedron_far_points::add_points` meets its contract. Assumes nothing.
-use mathlib.Core.Path.{◌≡◌, sym, ap, ◌∙◌}
-use Prim.Native.Nat.{ℕ, ◌+◌, ◌-◌, ◌≤◌, ◌<◌}
-use native.Mathlib.Omega.{arith}
-use Rattle.newtonian.specs.Fold.{Fold, fold_more, fold-none}
-use Rattle.newtonian.specs.Vectors.{dot}
-use Rattle.newtonian.specs.declared.Vector.{Vector}
+use mathlib.Core.Path.{◌≡◌}
+use Prim.Native.Nat.{ℕ, ◌+◌, ◌-◌, ◌≤◌}
+use Rattle.newtonian.specs.Fold.{Fold}
 use Rattle.polyhedron_far_points.specs.Tetrahedral.{point_step}
 use Rattle.polyhedron_far_points.proofs.add_points.Given as goal
 

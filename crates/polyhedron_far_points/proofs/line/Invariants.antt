@@ -1,13 +1,7 @@
 -- `polyhedron_far_points::line` meets its contract. Assumes nothing.
-use mathlib.Core.Path.{ap, ◌∙◌}
-use Prim.Native.Nat.{◌+◌, ◌*◌, ◌-◌, ◌<◌, ◌≤◌}
-use native.Mathlib.Omega.{arith}
-use lib.Ieee.{Float}
-use Rattle.doubles.specs.Rounded.{◌⊗◌}
-use Rattle.lanes.specs.Lanes.{lane}
+use Prim.Native.Nat.{◌+◌, ◌*◌, ◌-◌, ◌≤◌}
 use Rattle.polyhedron_tetrahedra.specs.Tetrahedra.{points}
 use Rattle.polyhedron_far_points.specs.Tetrahedral.{FirstPoints}
-use Rattle.polyhedron_far_points.proofs.Pointed.{one-point, point-is, so_many, weight_is}
 use Rattle.polyhedron_far_points.proofs.line.Given as goal
 
 abbrev pub invariant-loop-t : goal.invariant-loop-t

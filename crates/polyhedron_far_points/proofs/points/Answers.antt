@@ -1,7 +1,7 @@
 -- `polyhedron_far_points::points` meets its contract. Assumes nothing.
-use Prim.Native.Nat.{◌+◌, ◌*◌, ◌-◌, ◌≤◌}
+use Prim.Native.Nat.{◌+◌, ◌*◌, ◌-◌}
 use native.Mathlib.Omega.{arith}
-use Rattle.polyhedron_far_points.specs.Tetrahedral.{FirstPoints, point_count}
+use Rattle.polyhedron_far_points.specs.Tetrahedral.{point_count}
 use Rattle.polyhedron_far_points.proofs.Pointed.{no_points, so_many}
 use borrow.Author.Rules.{rules}
 use Rattle.polyhedron_far_points.proofs.points.Goals as goal

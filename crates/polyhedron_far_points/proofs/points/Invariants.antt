@@ -1,8 +1,6 @@
 -- `polyhedron_far_points::points` meets its contract. Assumes nothing.
-use Prim.Native.Nat.{◌+◌, ◌*◌, ◌-◌, ◌≤◌}
-use native.Mathlib.Omega.{arith}
-use Rattle.polyhedron_far_points.specs.Tetrahedral.{FirstPoints, point_count}
-use Rattle.polyhedron_far_points.proofs.Pointed.{no_points, so_many}
+use Prim.Native.Nat.{◌*◌, ◌-◌, ◌≤◌}
+use Rattle.polyhedron_far_points.specs.Tetrahedral.{FirstPoints}
 use Rattle.polyhedron_far_points.proofs.points.Given as goal
 
 abbrev pub invariant-loop-m : goal.invariant-loop-m

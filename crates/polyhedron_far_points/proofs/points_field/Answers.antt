@@ -1,12 +1,10 @@
 -- `polyhedron_far_points::points_field` meets its contract. Assumes nothing.
 use mathlib.Core.Path.{◌≡◌, refl}
-use Prim.Native.Nat.{◌+◌, ◌*◌, ◌-◌, ◌≤◌}
+use Prim.Native.Nat.{◌+◌, ◌*◌, ◌-◌}
 use native.Mathlib.Omega.{arith}
-use lib.ListN.{length}
-use Rattle.newtonian.specs.Fold.{Fold, fold-none}
-use Rattle.newtonian.specs.Vectors.{zero_field}
+use Rattle.newtonian.specs.Fold.{fold-none}
 use Rattle.lanes.proofs.Folds.{fold-add}
-use Rattle.polyhedron_far_points.specs.Tetrahedral.{point_count, points_field, point_step}
+use Rattle.polyhedron_far_points.specs.Tetrahedral.{point_count, points_field}
 use Rattle.polyhedron_far_points.proofs.points_field.Goals as goal
 
 pub loop-m-init : goal.loop-m-init

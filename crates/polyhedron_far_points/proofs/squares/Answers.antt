@@ -1,11 +1,10 @@
 -- `polyhedron_far_points::squares` meets its contract. Assumes nothing.
 use mathlib.Core.Path.{ap, ◌∙◌}
-use Prim.Native.Nat.{ℕ, ◌+◌, ◌-◌}
+use Prim.Native.Nat.{◌-◌}
 use native.Mathlib.Omega.{arith}
 use Rattle.newtonian.specs.Vectors.{dot}
 use Rattle.newtonian.specs.declared.Vector.{Vector}
-use Rattle.lanes.proofs.Filling.{Filled, all-filled, none_filled, one-filled}
-use Rattle.polyhedron_far_points.specs.Tetrahedral.{point_square}
+use Rattle.lanes.proofs.Filling.{all-filled, none_filled, one-filled}
 use Rattle.polyhedron_far_points.proofs.squares.Goals as goal
 
 pub loop-k-init : goal.loop-k-init

@@ -1,10 +1,6 @@
 -- `polyhedron_far_points::squares` meets its contract. Assumes nothing.
-use mathlib.Core.Path.{ap, ◌∙◌}
 use Prim.Native.Nat.{ℕ, ◌+◌, ◌-◌}
-use native.Mathlib.Omega.{arith}
-use Rattle.newtonian.specs.Vectors.{dot}
-use Rattle.newtonian.specs.declared.Vector.{Vector}
-use Rattle.lanes.proofs.Filling.{Filled, all-filled, none_filled, one-filled}
+use Rattle.lanes.proofs.Filling.{Filled}
 use Rattle.polyhedron_far_points.specs.Tetrahedral.{point_square}
 use Rattle.polyhedron_far_points.proofs.squares.Given as goal
 

@@ -1,12 +1,10 @@
 -- `polyhedron_fields::near_of` meets its contract. Assumes nothing.
 use mathlib.Core.Bool.{false}
 use mathlib.Core.Path.{refl}
-use Prim.Native.Nat.{◌-◌, ◌≤◌}
+use Prim.Native.Nat.{◌-◌}
 use native.Mathlib.Omega.{arith}
-use lib.ListN.{get_or}
-use Rattle.polyhedron_blocks.proofs.Elements.{Filled, filled_more, filled_none}
-use Rattle.polyhedron_blocks.specs.Blocks.{block_size, no_vector}
-use Rattle.polyhedron_fields.specs.Walked.{is_near}
+use Rattle.polyhedron_blocks.proofs.Elements.{filled_more, filled_none}
+use Rattle.polyhedron_blocks.specs.Blocks.{block_size}
 use Rattle.polyhedron_fields.proofs.near_of.Goals as goal
 
 pub loop-j-init : goal.loop-j-init

@@ -1,10 +1,8 @@
 -- `polyhedron_fields::near_of` meets its contract. Assumes nothing.
 use mathlib.Core.Bool.{false}
-use mathlib.Core.Path.{refl}
 use Prim.Native.Nat.{◌-◌, ◌≤◌}
-use native.Mathlib.Omega.{arith}
 use lib.ListN.{get_or}
-use Rattle.polyhedron_blocks.proofs.Elements.{Filled, filled_more, filled_none}
+use Rattle.polyhedron_blocks.proofs.Elements.{Filled}
 use Rattle.polyhedron_blocks.specs.Blocks.{block_size, no_vector}
 use Rattle.polyhedron_fields.specs.Walked.{is_near}
 use Rattle.polyhedron_fields.proofs.near_of.Given as goal

@@ -1,10 +1,9 @@
 -- `polyhedron_fields::places_of` meets its contract. Assumes nothing.
 use mathlib.Core.Path.{refl}
-use Prim.Native.Nat.{◌+◌, ◌-◌, ◌≤◌}
+use Prim.Native.Nat.{◌-◌}
 use native.Mathlib.Omega.{arith}
-use Rattle.polyhedron_blocks.proofs.Elements.{Filled, filled_more, filled_none}
+use Rattle.polyhedron_blocks.proofs.Elements.{filled_more, filled_none}
 use Rattle.polyhedron_blocks.specs.Blocks.{block_size, no_vector}
-use Rattle.mesh.specs.Surface.{vertex}
 use Rattle.polyhedron_fields.proofs.places_of.Goals as goal
 
 pub loop-j-init : goal.loop-j-init

@@ -1,8 +1,6 @@
 -- `polyhedron_fields::places_of` meets its contract. Assumes nothing.
-use mathlib.Core.Path.{refl}
 use Prim.Native.Nat.{◌+◌, ◌-◌, ◌≤◌}
-use native.Mathlib.Omega.{arith}
-use Rattle.polyhedron_blocks.proofs.Elements.{Filled, filled_more, filled_none}
+use Rattle.polyhedron_blocks.proofs.Elements.{Filled}
 use Rattle.polyhedron_blocks.specs.Blocks.{block_size, no_vector}
 use Rattle.mesh.specs.Surface.{vertex}
 use Rattle.polyhedron_fields.proofs.places_of.Given as goal

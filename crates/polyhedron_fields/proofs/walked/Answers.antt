@@ -1,14 +1,13 @@
 -- `polyhedron_fields::walked` meets its contract: after k faces each near station carries their sums, and each far one has the sums of their tetrahedra. Assumes nothing.
 use mathlib.Core.Bool.{false, true}
-use mathlib.Core.List.{[]}
 use mathlib.Core.Path.{◌≡◌, sym, ap, ◌∙◌}
-use Prim.Native.Nat.{ℕ, ◌+◌, ◌-◌, ◌≤◌, ◌<◌}
+use Prim.Native.Nat.{◌+◌, ◌-◌}
 use native.Mathlib.Omega.{arith}
-use lib.ListN.{get_or, length}
+use lib.ListN.{get_or}
 use Rattle.newtonian.specs.Fold.{Fold}
 use Rattle.mesh.specs.Surface.{face_count}
 use Rattle.polyhedron_edge_face_sums.specs.EdgeFaceSums.{add_triangle, no_faces, sums_of, triangle_of}
-use Rattle.polyhedron_blocks.specs.Blocks.{Blocked, CarriesAt, block_size, no_vector}
+use Rattle.polyhedron_blocks.specs.Blocks.{no_vector}
 use Rattle.polyhedron_blocks.proofs.Starts.{blocked_start, carries_start, room_of}
 use Rattle.lanes.proofs.Folds.{fold-add}
 use Rattle.polyhedron_neumaier.specs.Neumaier.{no_sums}

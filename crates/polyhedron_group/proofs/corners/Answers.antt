@@ -1,9 +1,8 @@
 -- `polyhedron_group::corners` meets its contract. Assumes nothing.
-use Prim.Native.Nat.{ℕ, ◌-◌, ◌/◌, ◌%◌, ◌<◌}
+use Prim.Native.Nat.{◌-◌, ◌%◌, ◌<◌}
 use native.Mathlib.Omega.{arith}
-use Rattle.mesh.specs.Surface.{corner, face_count}
-use Rattle.polyhedron_group.specs.Group.{face_in}
-use Rattle.polyhedron_faces.proofs.FillingVectors.{FilledVectors, all_vectors, no_vectors, one-vector}
+use Rattle.mesh.specs.Surface.{face_count}
+use Rattle.polyhedron_faces.proofs.FillingVectors.{all_vectors, no_vectors, one-vector}
 use Rattle.polyhedron_group.proofs.Places.{face-below}
 use Rattle.polyhedron_group.proofs.corners.Goals as goal
 

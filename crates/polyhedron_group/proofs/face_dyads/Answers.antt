@@ -2,8 +2,7 @@
 use mathlib.Core.Path.{◌∙◌}
 use Prim.Native.Nat.{◌-◌}
 use native.Mathlib.Omega.{arith}
-use Rattle.polyhedron_faces.specs.Faces.{face_dyad}
-use Rattle.polyhedron_group.proofs.FillingDyads.{FilledDyads, all_dyads, no_dyads, one-dyad}
+use Rattle.polyhedron_group.proofs.FillingDyads.{all_dyads, no_dyads, one-dyad}
 use Rattle.polyhedron_group.proofs.face_dyads.Goals as goal
 
 pub loop-k-preserved : goal.loop-k-preserved

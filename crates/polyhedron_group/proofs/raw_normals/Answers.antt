@@ -1,11 +1,11 @@
 -- `polyhedron_group::raw_normals` meets its contract. Assumes nothing.
 use mathlib.Core.Path.{◌≡◌, ap, ◌∙◌}
-use Prim.Native.Nat.{ℕ, ◌-◌, ◌<◌}
+use Prim.Native.Nat.{◌-◌, ◌<◌}
 use native.Mathlib.Omega.{arith}
-use Rattle.lanes.proofs.Filling.{Filled, all-filled, none_filled, one-filled}
+use Rattle.lanes.proofs.Filling.{all-filled, none_filled, one-filled}
 use Rattle.polyhedron_faces.specs.Parts.{square}
 use Rattle.polyhedron_group.specs.Group.{raw_normal}
-use Rattle.polyhedron_faces.proofs.FillingVectors.{FilledVectors, all_vectors, no_vectors, one-vector}
+use Rattle.polyhedron_faces.proofs.FillingVectors.{all_vectors, no_vectors, one-vector}
 use Rattle.polyhedron_group.proofs.raw_normals.Goals as goal
 
 pub loop-k-init : goal.loop-k-init

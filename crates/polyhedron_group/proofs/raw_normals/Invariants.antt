@@ -1,11 +1,9 @@
 -- `polyhedron_group::raw_normals` meets its contract. Assumes nothing.
-use mathlib.Core.Path.{◌≡◌, ap, ◌∙◌}
-use Prim.Native.Nat.{ℕ, ◌-◌, ◌<◌}
-use native.Mathlib.Omega.{arith}
-use Rattle.lanes.proofs.Filling.{Filled, all-filled, none_filled, one-filled}
+use Prim.Native.Nat.{ℕ, ◌-◌}
+use Rattle.lanes.proofs.Filling.{Filled}
 use Rattle.polyhedron_faces.specs.Parts.{square}
 use Rattle.polyhedron_group.specs.Group.{raw_normal}
-use Rattle.polyhedron_faces.proofs.FillingVectors.{FilledVectors, all_vectors, no_vectors, one-vector}
+use Rattle.polyhedron_faces.proofs.FillingVectors.{FilledVectors}
 use Rattle.polyhedron_group.proofs.raw_normals.Given as goal
 
 abbrev pub invariant-loop-k : goal.invariant-loop-k

@@ -2,8 +2,7 @@
 use mathlib.Core.Path.{◌∙◌}
 use Prim.Native.Nat.{◌-◌}
 use native.Mathlib.Omega.{arith}
-use Rattle.polyhedron_faces.specs.Faces.{side_dyad}
-use Rattle.polyhedron_group.proofs.FillingDyads.{FilledDyads, all_dyads, no_dyads, one-dyad}
+use Rattle.polyhedron_group.proofs.FillingDyads.{all_dyads, no_dyads, one-dyad}
 use Rattle.polyhedron_group.proofs.side_dyads.Goals as goal
 
 pub loop-i-preserved : goal.loop-i-preserved

@@ -1,9 +1,7 @@
 -- `polyhedron_group::side_dyads` meets its contract. Assumes nothing.
-use mathlib.Core.Path.{◌∙◌}
 use Prim.Native.Nat.{◌-◌}
-use native.Mathlib.Omega.{arith}
 use Rattle.polyhedron_faces.specs.Faces.{side_dyad}
-use Rattle.polyhedron_group.proofs.FillingDyads.{FilledDyads, all_dyads, no_dyads, one-dyad}
+use Rattle.polyhedron_group.proofs.FillingDyads.{FilledDyads}
 use Rattle.polyhedron_group.proofs.side_dyads.Given as goal
 
 abbrev pub invariant-loop-i : goal.invariant-loop-i

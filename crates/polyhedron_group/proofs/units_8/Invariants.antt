@@ -1,10 +1,9 @@
 -- `polyhedron_group::units_8` meets its contract. Assumes nothing.
 use Prim.Native.Nat.{ℕ, ◌-◌}
-use native.Mathlib.Omega.{arith}
 use Rattle.newtonian.specs.Vectors.{over}
 use Rattle.lanes.specs.Lanes.{lane}
 use Rattle.polyhedron_faces.specs.Faces.{vector_at}
-use Rattle.polyhedron_faces.proofs.FillingVectors.{FilledVectors, all_vectors, no_vectors, one-over}
+use Rattle.polyhedron_faces.proofs.FillingVectors.{FilledVectors}
 use Rattle.polyhedron_group.proofs.units_8.Given as goal
 
 abbrev pub invariant-loop-k : goal.invariant-loop-k

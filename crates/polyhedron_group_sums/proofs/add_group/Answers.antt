@@ -9,5 +9,8 @@ add_block-a-requires c = let w = c.requires in record { count_bound = w.sized.2;
 pub returns-then-a : goal.returns-then-a
 returns-then-a c =
     let a = c.args in
-    let r = c.requires.sized in record { sized_2 = r.0; adds = carries_clear a.p a.verts.now a.faces.now a.first a.n r.3 r.2 a.keys.now a.dyads.now a.run _
-          (c.add_block-a.ensures c.if-a.true _ (c.requires.describes (omega (arith, c.if-n-lt-FEWEST.false)))) }
+    let r = c.requires.sized in record {
+      sized_2 = r.0;
+      adds = carries_clear a.p a.verts.now a.faces.now a.first a.n r.3 r.2 a.keys.now a.dyads.now a.run _
+          (c.add_block-a.ensures c.if-a.true _ (c.requires.describes (omega (arith, c.if-n-lt-FEWEST.false))));
+    }

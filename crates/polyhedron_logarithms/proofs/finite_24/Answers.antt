@@ -1,12 +1,9 @@
 -- `polyhedron_logarithms::finite_24` meets its contract. Assumes nothing.
-use mathlib.Core.Path.{◌≡◌, sym, ◌∙◌}
-use mathlib.Core.Bool.{true}
-use Prim.Native.Nat.{ℕ, ◌-◌, ◌≤◌, ◌<◌}
+use mathlib.Core.Path.{sym, ◌∙◌}
+use Prim.Native.Nat.{◌-◌}
 use native.Mathlib.Omega.{arith}
 use borrow.Author.Count.{below_none, below_more}
-use lib.Ieee.Scale.{finite}
 use Rattle.lists.proofs.Numbers.{both}
-use Rattle.lanes.specs.Lanes.{lane}
 use borrow.Author.Rules.{rules}
 use Rattle.polyhedron_logarithms.proofs.finite_24.Goals as goal
 

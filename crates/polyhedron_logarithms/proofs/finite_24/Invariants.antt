@@ -1,11 +1,8 @@
 -- `polyhedron_logarithms::finite_24` meets its contract. Assumes nothing.
-use mathlib.Core.Path.{◌≡◌, sym, ◌∙◌}
+use mathlib.Core.Path.{◌≡◌}
 use mathlib.Core.Bool.{true}
 use Prim.Native.Nat.{ℕ, ◌-◌, ◌≤◌, ◌<◌}
-use native.Mathlib.Omega.{arith}
-use borrow.Author.Count.{below_none, below_more}
 use lib.Ieee.Scale.{finite}
-use Rattle.lists.proofs.Numbers.{both}
 use Rattle.lanes.specs.Lanes.{lane}
 use Rattle.polyhedron_logarithms.proofs.finite_24.Given as goal
 

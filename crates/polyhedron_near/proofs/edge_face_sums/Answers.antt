@@ -1,11 +1,9 @@
 -- `polyhedron_near::edge_face_sums` meets its contract: after k faces the station carries their sums. Assumes nothing.
-use mathlib.Core.Path.{◌≡◌, refl, sym, ap, ◌∙◌}
-use Prim.Native.Nat.{ℕ, ◌+◌, ◌-◌, ◌≤◌, ◌<◌}
+use mathlib.Core.Path.{◌≡◌}
+use Prim.Native.Nat.{◌-◌}
 use native.Mathlib.Omega.{arith}
 use Rattle.newtonian.specs.Fold.{Fold}
 use Rattle.mesh.specs.Surface.{face_count}
-use Rattle.polyhedron_on_edge.specs.Block.{Sized}
-use Rattle.polyhedron_edge_face_sums.specs.Carried.{Carries}
 use Rattle.polyhedron_edge_face_sums.specs.EdgeFaceSums.{add_triangle, no_faces, sums_of, triangle_of}
 use Rattle.polyhedron_edge_face_sums.proofs.Carrying.{carries_none}
 use Rattle.lanes.proofs.Folds.{fold-add}

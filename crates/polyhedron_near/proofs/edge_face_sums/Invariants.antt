@@ -1,14 +1,10 @@
 -- `polyhedron_near::edge_face_sums` meets its contract: after k faces the station carries their sums. Assumes nothing.
-use mathlib.Core.Path.{◌≡◌, refl, sym, ap, ◌∙◌}
-use Prim.Native.Nat.{ℕ, ◌+◌, ◌-◌, ◌≤◌, ◌<◌}
-use native.Mathlib.Omega.{arith}
+use Prim.Native.Nat.{◌-◌, ◌≤◌}
 use Rattle.newtonian.specs.Fold.{Fold}
 use Rattle.mesh.specs.Surface.{face_count}
 use Rattle.polyhedron_on_edge.specs.Block.{Sized}
 use Rattle.polyhedron_edge_face_sums.specs.Carried.{Carries}
-use Rattle.polyhedron_edge_face_sums.specs.EdgeFaceSums.{add_triangle, no_faces, sums_of, triangle_of}
-use Rattle.polyhedron_edge_face_sums.proofs.Carrying.{carries_none}
-use Rattle.lanes.proofs.Folds.{fold-add}
+use Rattle.polyhedron_edge_face_sums.specs.EdgeFaceSums.{add_triangle, no_faces, triangle_of}
 use Rattle.polyhedron_near.proofs.edge_face_sums.Given as goal
 
 abbrev pub invariant-loop-k : goal.invariant-loop-k

@@ -1,9 +1,9 @@
 -- `polyhedron_neumaier::add_terms` meets its contract. Assumes nothing.
 use mathlib.Core.Path.{◌≡◌}
-use Prim.Native.Nat.{◌≤◌, ◌-◌}
+use Prim.Native.Nat.{◌-◌}
 use native.Mathlib.Omega.{arith}
-use Rattle.newtonian.specs.Fold.{Fold, fold-none, fold_more}
-use Rattle.polyhedron_neumaier.specs.Neumaier.{add_term_at, add_terms}
+use Rattle.newtonian.specs.Fold.{fold-none, fold_more}
+use Rattle.polyhedron_neumaier.specs.Neumaier.{add_terms}
 use Rattle.newtonian.specs.Vectors.{field_size}
 use borrow.Author.Rules.{rules}
 use Rattle.polyhedron_neumaier.proofs.add_terms.Goals as goal

@@ -1,19 +1,14 @@
 -- `polyhedron_on_edge::add_infinite` meets its contract: what the edges still to come add to the sums is what all of them add. Assumes nothing.
-use mathlib.Core.List.{List}
 use mathlib.Core.Path.{◌∙◌, ◌≡◌, refl, sym}
-use Prim.Native.Nat.{◌-◌, ◌≤◌, ℕ}
+use Prim.Native.Nat.{◌-◌}
 use native.Mathlib.Omega.{arith}
-use lib.ListN.{drop}
 use Rattle.polyhedron_on_edge.proofs.Adding.{infinite_end, infinite_more}
-use Rattle.polyhedron_on_edge.specs.Block.{HoldsEdges}
-use Rattle.polyhedron_on_edge.specs.OnEdge.{Edge, add_infinite}
 use borrow.Author.Rules.{rules}
 use Rattle.polyhedron_on_edge.proofs.add_infinite.Goals as goal
 
 pub loop-i-preserved : goal.loop-i-preserved
 loop-i-preserved c =
-    let l = c.loop-i in
-    (
+    let l = c.loop-i in (
       search rules,
       λ es keys h.
           simp (c.infinite_entries-sums.ensures, c.dyad_at.ensures) (infinite_more es keys c.args.dyads.now c.args.count h c.requires l.i (omega arith) l.sums)

@@ -1,10 +1,8 @@
 -- `polyhedron_on_edge::add_infinite` meets its contract: what the edges still to come add to the sums is what all of them add. Assumes nothing.
 use mathlib.Core.List.{List}
-use mathlib.Core.Path.{◌∙◌, ◌≡◌, refl, sym}
+use mathlib.Core.Path.{◌≡◌}
 use Prim.Native.Nat.{◌-◌, ◌≤◌, ℕ}
-use native.Mathlib.Omega.{arith}
 use lib.ListN.{drop}
-use Rattle.polyhedron_on_edge.proofs.Adding.{infinite_end, infinite_more}
 use Rattle.polyhedron_on_edge.specs.Block.{HoldsEdges}
 use Rattle.polyhedron_on_edge.specs.OnEdge.{Edge, add_infinite}
 use Rattle.polyhedron_on_edge.proofs.add_infinite.Given as goal

@@ -1,11 +1,9 @@
 -- `polyhedron_on_edge::find` meets its contract: no key passed is the one sought. Assumes nothing.
 use mathlib.Core.Bool.{false}
-use mathlib.Core.Path.{◌≡◌}
-use Prim.Native.Nat.{◌-◌, ◌<◌, ◌≤◌, ℕ}
+use Prim.Native.Nat.{◌-◌}
 use native.Mathlib.Omega.{arith}
 use borrow.Author.Count.{below_more}
 use borrow.Author.Tests.{eq-eqb, ne_eqb}
-use Rattle.polyhedron_on_edge.specs.Block.{has_key}
 use borrow.Author.Rules.{rules}
 use Rattle.polyhedron_on_edge.proofs.find.Goals as goal
 

@@ -1,9 +1,9 @@
 -- `polyhedron_on_edge::store` meets its contract. Assumes nothing.
 use mathlib.Core.Path.{◌≡◌, refl}
-use Prim.Native.Nat.{◌-◌, ◌≤◌}
+use Prim.Native.Nat.{◌-◌}
 use native.Mathlib.Omega.{arith}
 use Rattle.newtonian.specs.Fold.{Fold, fold_more}
-use Rattle.polyhedron_on_edge.specs.Block.{store_number, stored_dyad}
+use Rattle.polyhedron_on_edge.specs.Block.{stored_dyad}
 use borrow.Author.Rules.{rules}
 use Rattle.polyhedron_on_edge.proofs.store.Goals as goal
 

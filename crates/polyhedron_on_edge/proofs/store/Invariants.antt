@@ -1,9 +1,8 @@
 -- `polyhedron_on_edge::store` meets its contract. Assumes nothing.
-use mathlib.Core.Path.{◌≡◌, refl}
+use mathlib.Core.Path.{◌≡◌}
 use Prim.Native.Nat.{◌-◌, ◌≤◌}
-use native.Mathlib.Omega.{arith}
-use Rattle.newtonian.specs.Fold.{Fold, fold_more}
-use Rattle.polyhedron_on_edge.specs.Block.{store_number, stored_dyad}
+use Rattle.newtonian.specs.Fold.{Fold}
+use Rattle.polyhedron_on_edge.specs.Block.{store_number}
 use Rattle.polyhedron_on_edge.proofs.store.Given as goal
 
 abbrev pub invariant-loop-q : goal.invariant-loop-q

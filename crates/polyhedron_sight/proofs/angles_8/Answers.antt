@@ -1,10 +1,7 @@
 -- `polyhedron_sight::angles_8` meets its contract. Assumes nothing.
 use mathlib.Core.Path.{refl, ◌∙◌}
-use Prim.Native.Nat.{ℕ, ◌-◌}
-use Rattle.doubles.specs.Rounded.{◌⊗◌}
-use Rattle.doubles.specs.Constants.{2·0}
-use Rattle.lanes.specs.Lanes.{lane}
-use Rattle.lanes.proofs.Filling.{Filled, none_filled, one-filled, all-filled}
+use Prim.Native.Nat.{◌-◌}
+use Rattle.lanes.proofs.Filling.{none_filled, one-filled, all-filled}
 use Rattle.polyhedron_sight.proofs.Terms.{angle_parts}
 use Rattle.polyhedron_sight.proofs.angles_8.Goals as goal
 

@@ -1,8 +1,7 @@
 -- `polyhedron_sight::quotients_8` meets its contract. Assumes nothing.
 use mathlib.Core.Path.{◌∙◌}
 use Prim.Native.Nat.{◌-◌}
-use Rattle.lanes.proofs.Filling.{Filled, none_filled, one-filled, all-filled}
-use Rattle.polyhedron_sight.specs.Sight.{triple_at, denominator_at}
+use Rattle.lanes.proofs.Filling.{none_filled, one-filled, all-filled}
 use Rattle.polyhedron_sight.proofs.Terms.{triple-same, denominator-same}
 use Rattle.polyhedron_sight.proofs.quotients_8.Goals as goal
 

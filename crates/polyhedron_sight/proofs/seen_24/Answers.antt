@@ -1,13 +1,11 @@
 -- `polyhedron_sight::seen_24` meets its contract. Assumes nothing.
 use mathlib.Core.Path.{refl, ap, ◌∙◌}
-use Prim.Native.Nat.{ℕ, ◌-◌}
+use Prim.Native.Nat.{◌-◌}
 use Rattle.roots.specs.Root.{Root}
 use Rattle.newtonian.specs.Vectors.{difference, dot, norm}
 use Rattle.newtonian.specs.declared.Vector.{Vector}
-use Rattle.polyhedron_edge_terms.specs.declared.Corner.{Corner}
 use Rattle.polyhedron_edge_terms.specs.Corners.{seen}
-use Rattle.lanes.proofs.Filling.{Filled, none_filled, one-filled, all-filled}
-use Rattle.polyhedron_sight.specs.Sight.{seen_at}
+use Rattle.lanes.proofs.Filling.{none_filled, one-filled, all-filled}
 use Rattle.polyhedron_sight.proofs.seen_24.Goals as goal
 
 pub loop-k-init : goal.loop-k-init

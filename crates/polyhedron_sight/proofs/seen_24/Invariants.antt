@@ -1,12 +1,8 @@
 -- `polyhedron_sight::seen_24` meets its contract. Assumes nothing.
-use mathlib.Core.Path.{refl, ap, ◌∙◌}
 use Prim.Native.Nat.{ℕ, ◌-◌}
-use Rattle.roots.specs.Root.{Root}
-use Rattle.newtonian.specs.Vectors.{difference, dot, norm}
-use Rattle.newtonian.specs.declared.Vector.{Vector}
+use Rattle.newtonian.specs.Vectors.{dot}
 use Rattle.polyhedron_edge_terms.specs.declared.Corner.{Corner}
-use Rattle.polyhedron_edge_terms.specs.Corners.{seen}
-use Rattle.lanes.proofs.Filling.{Filled, none_filled, one-filled, all-filled}
+use Rattle.lanes.proofs.Filling.{Filled}
 use Rattle.polyhedron_sight.specs.Sight.{seen_at}
 use Rattle.polyhedron_sight.proofs.seen_24.Given as goal
 

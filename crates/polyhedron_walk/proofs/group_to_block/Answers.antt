@@ -1,13 +1,9 @@
 -- `polyhedron_walk::group_to_block` meets its contract. Assumes nothing.
-use mathlib.Core.Bool.{false, true}
-use mathlib.Core.Path.{◌≡◌}
-use Prim.Native.Nat.{ℕ, ◌-◌, ◌≤◌, ◌<◌}
+use mathlib.Core.Bool.{true}
+use Prim.Native.Nat.{◌-◌, ◌<◌}
 use native.Mathlib.Omega.{arith}
-use lib.ListN.{get_or}
-use Rattle.polyhedron_edge_face_sums.specs.EdgeFaceSums.{Sums}
-use Rattle.polyhedron_blocks.specs.Blocks.{Blocked, CarriesAt, block_size, no_vector}
+use Rattle.polyhedron_blocks.specs.Blocks.{block_size}
 use Rattle.polyhedron_blocks.proofs.Turns.{blocked_set, one_more}
-use Rattle.polyhedron_edge_face_sums.specs.Carried.{with_faces}
 use Rattle.polyhedron_walk.proofs.group_to_block.Goals as goal
 
 pub loop-j-init : goal.loop-j-init

@@ -2,11 +2,9 @@
 use mathlib.Core.Bool.{false, true}
 use mathlib.Core.Path.{◌≡◌}
 use Prim.Native.Nat.{ℕ, ◌-◌, ◌≤◌, ◌<◌}
-use native.Mathlib.Omega.{arith}
 use lib.ListN.{get_or}
 use Rattle.polyhedron_edge_face_sums.specs.EdgeFaceSums.{Sums}
 use Rattle.polyhedron_blocks.specs.Blocks.{Blocked, CarriesAt, block_size, no_vector}
-use Rattle.polyhedron_blocks.proofs.Turns.{blocked_set, one_more}
 use Rattle.polyhedron_edge_face_sums.specs.Carried.{with_faces}
 use Rattle.polyhedron_walk.proofs.group_to_block.Given as goal
 

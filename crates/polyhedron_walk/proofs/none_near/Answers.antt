@@ -1,12 +1,8 @@
 -- `polyhedron_walk::none_near` meets its contract. Assumes nothing.
 use mathlib.Core.Bool.{false}
-use mathlib.Core.Path.{◌≡◌, sym}
-use Prim.Native.Nat.{ℕ, ◌-◌, ◌≤◌, ◌<◌}
+use Prim.Native.Nat.{◌-◌}
 use native.Mathlib.Omega.{arith}
 use borrow.Author.Count.{below_more}
-use lib.ListN.{get_or}
-use Rattle.lists.proofs.Numbers.{true≢false}
-use Rattle.polyhedron_blocks.specs.Blocks.{block_size}
 use borrow.Author.Rules.{rules}
 use Rattle.polyhedron_walk.proofs.none_near.Goals as goal
 

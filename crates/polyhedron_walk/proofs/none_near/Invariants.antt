@@ -1,11 +1,8 @@
 -- `polyhedron_walk::none_near` meets its contract. Assumes nothing.
 use mathlib.Core.Bool.{false}
-use mathlib.Core.Path.{◌≡◌, sym}
+use mathlib.Core.Path.{◌≡◌}
 use Prim.Native.Nat.{ℕ, ◌-◌, ◌≤◌, ◌<◌}
-use native.Mathlib.Omega.{arith}
-use borrow.Author.Count.{below_more}
 use lib.ListN.{get_or}
-use Rattle.lists.proofs.Numbers.{true≢false}
 use Rattle.polyhedron_blocks.specs.Blocks.{block_size}
 use Rattle.polyhedron_walk.proofs.none_near.Given as goal
 

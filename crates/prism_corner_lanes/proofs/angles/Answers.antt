@@ -1,12 +1,8 @@
 -- `prism_corner_lanes::angles` meets its contract. Assumes nothing.
 use mathlib.Core.Path.{◌∙◌}
-use mathlib.Core.Bool.{cond}
-use Prim.Native.Nat.{ℕ, ◌-◌}
+use Prim.Native.Nat.{◌-◌}
 use lib.Ieee.{eq}
-use Rattle.doubles.specs.Rounded.{◌⊗◌}
-use Rattle.doubles.specs.Constants.{0·0}
-use Rattle.lanes.specs.Lanes.{lane}
-use Rattle.lanes.proofs.Filling.{Filled, none_filled, one-filled, all-filled}
+use Rattle.lanes.proofs.Filling.{none_filled, one-filled, all-filled}
 use Rattle.prism_corner_lanes.proofs.CornersMade.{angle-from}
 use Rattle.prism_corner_lanes.proofs.angles.Goals as goal
 

@@ -1,6 +1,6 @@
 -- `prism_corner_lanes::arguments` meets its contract. Assumes nothing.
 use Prim.Native.Nat.{◌-◌}
-use Rattle.lanes.proofs.Filling.{Filled, none_filled, one-filled, all-filled}
+use Rattle.lanes.proofs.Filling.{Filled}
 use Rattle.prism_corner_lanes.specs.CornerLanes.{argument_at}
 use Rattle.prism_corner_lanes.proofs.arguments.Given as goal
 

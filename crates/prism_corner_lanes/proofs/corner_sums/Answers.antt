@@ -1,7 +1,7 @@
 -- `prism_corner_lanes::corner_sums` meets its contract. Assumes nothing.
 use mathlib.Core.Path.{refl, ap₂, ◌∙◌}
 use Rattle.prism_corner_lanes.specs.CornerLanes.{axes}
-use Rattle.prism_corner_lanes.proofs.CornersMade.{Made, sums_are}
+use Rattle.prism_corner_lanes.proofs.CornersMade.{sums_are}
 use Rattle.prism_corner_lanes.proofs.corner_sums.Goals as goal
 
 pub distances-requires : goal.distances-requires

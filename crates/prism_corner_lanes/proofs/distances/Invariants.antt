@@ -1,10 +1,8 @@
 -- `prism_corner_lanes::distances` meets its contract. Assumes nothing.
-use mathlib.Core.Path.{refl, ap, ◌∙◌}
 use Prim.Native.Nat.{ℕ, ◌-◌}
 use Rattle.doubles.specs.Rounded.{◌⊕◌, ◌⊗◌}
-use Rattle.roots.specs.Root.{Root}
 use Rattle.lanes.specs.Lanes.{lane}
-use Rattle.lanes.proofs.Filling.{Filled, none_filled, one-filled, all-filled}
+use Rattle.lanes.proofs.Filling.{Filled}
 use Rattle.prism_corner_lanes.proofs.distances.Given as goal
 
 abbrev pub invariant-loop-k : goal.invariant-loop-k

@@ -1,10 +1,8 @@
 -- `prism_corner_lanes::logarithms` meets its contract. Assumes nothing.
-use mathlib.Core.Path.{refl, ◌∙◌}
-use mathlib.Core.Bool.{cond}
-use Prim.Native.Nat.{ℕ, ◌-◌}
-use lib.Ieee.{neg, le}
-use Rattle.lanes.specs.Lanes.{lane}
-use Rattle.lanes.proofs.Filling.{Filled, none_filled, one-filled, all-filled}
+use mathlib.Core.Path.{◌∙◌}
+use Prim.Native.Nat.{◌-◌}
+use lib.Ieee.{le}
+use Rattle.lanes.proofs.Filling.{none_filled, one-filled, all-filled}
 use Rattle.prism_corner_lanes.proofs.CornersMade.{logarithm-from}
 use Rattle.prism_corner_lanes.proofs.logarithms.Goals as goal
 

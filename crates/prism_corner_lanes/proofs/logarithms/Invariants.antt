@@ -1,11 +1,9 @@
 -- `prism_corner_lanes::logarithms` meets its contract. Assumes nothing.
-use mathlib.Core.Path.{refl, ◌∙◌}
 use mathlib.Core.Bool.{cond}
 use Prim.Native.Nat.{ℕ, ◌-◌}
 use lib.Ieee.{neg, le}
 use Rattle.lanes.specs.Lanes.{lane}
-use Rattle.lanes.proofs.Filling.{Filled, none_filled, one-filled, all-filled}
-use Rattle.prism_corner_lanes.proofs.CornersMade.{logarithm-from}
+use Rattle.lanes.proofs.Filling.{Filled}
 use Rattle.prism_corner_lanes.proofs.logarithms.Given as goal
 
 abbrev pub invariant-loop-k : goal.invariant-loop-k

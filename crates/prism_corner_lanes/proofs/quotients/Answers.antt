@@ -1,8 +1,7 @@
 -- `prism_corner_lanes::quotients` meets its contract. Assumes nothing.
 use mathlib.Core.Path.{refl}
 use Prim.Native.Nat.{◌-◌}
-use Rattle.lanes.proofs.Filling.{Filled, none_filled, one-filled, all-filled}
-use Rattle.prism_corner_lanes.specs.CornerLanes.{quotient_at}
+use Rattle.lanes.proofs.Filling.{none_filled, one-filled, all-filled}
 use Rattle.prism_corner_lanes.proofs.quotients.Goals as goal
 
 pub loop-k-init : goal.loop-k-init

@@ -1,7 +1,6 @@
 -- `prism_corner_lanes::quotients` meets its contract. Assumes nothing.
-use mathlib.Core.Path.{refl}
 use Prim.Native.Nat.{◌-◌}
-use Rattle.lanes.proofs.Filling.{Filled, none_filled, one-filled, all-filled}
+use Rattle.lanes.proofs.Filling.{Filled}
 use Rattle.prism_corner_lanes.specs.CornerLanes.{quotient_at}
 use Rattle.prism_corner_lanes.proofs.quotients.Given as goal
 

@@ -1,9 +1,8 @@
 -- `prism_corner_lanes::sum` meets its contract. Assumes nothing.
 use mathlib.Core.Path.{◌≡◌}
 use Prim.Native.Nat.{◌≤◌, ◌-◌}
-use native.Mathlib.Omega.{arith}
 use Rattle.newtonian.specs.Vectors.{zero_field}
-use Rattle.newtonian.specs.Fold.{Fold, fold-none, fold_more}
+use Rattle.newtonian.specs.Fold.{Fold}
 use Rattle.prism_corner_lanes.specs.CornerLanes.{add_lanes}
 use Rattle.prism_corner_lanes.proofs.sum.Given as goal
 

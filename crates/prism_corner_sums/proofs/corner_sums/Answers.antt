@@ -1,10 +1,9 @@
 -- `prism_corner_sums::corner_sums` meets its contract. Assumes nothing.
 use mathlib.Core.Path.{◌≡◌}
-use Prim.Native.Nat.{◌≤◌, ◌-◌}
+use Prim.Native.Nat.{◌-◌}
 use native.Mathlib.Omega.{arith}
-use Rattle.newtonian.specs.Vectors.{zero_field}
-use Rattle.newtonian.specs.Fold.{Fold, fold-none, fold_more}
-use Rattle.prism_corner_sums.specs.CornerSums.{add_corner, corner_sums}
+use Rattle.newtonian.specs.Fold.{fold-none, fold_more}
+use Rattle.prism_corner_sums.specs.CornerSums.{corner_sums}
 use borrow.Author.Rules.{rules}
 use Rattle.prism_corner_sums.proofs.corner_sums.Goals as goal
 

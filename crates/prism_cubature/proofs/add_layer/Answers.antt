@@ -1,13 +1,12 @@
 -- `prism_cubature::add_layer` meets its contract. Assumes nothing.
 use mathlib.Core.Path.{◌≡◌}
-use Prim.Native.Nat.{◌≤◌, ◌-◌}
+use Prim.Native.Nat.{◌-◌}
 use native.Mathlib.Omega.{arith}
 use lib.ListN.{get_or}
 use lib.Ieee.{nan}
-use Rattle.newtonian.specs.Fold.{Fold, fold-none, fold_more}
+use Rattle.newtonian.specs.Fold.{fold-none, fold_more}
 use Rattle.legendre.specs.GaussLegendre.{node, weight}
 use Rattle.legendre.specs.RuleEntries.{node_at, weight-at}
-use Rattle.prism_cubature.specs.Cubature.{line}
 use borrow.Author.Rules.{rules}
 use Rattle.prism_cubature.proofs.add_layer.Goals as goal
 

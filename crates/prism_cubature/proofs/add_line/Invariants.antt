@@ -1,12 +1,7 @@
 -- `prism_cubature::add_line` meets its contract. Assumes nothing.
 use mathlib.Core.Path.{◌≡◌}
 use Prim.Native.Nat.{◌≤◌, ◌-◌}
-use native.Mathlib.Omega.{arith}
-use lib.ListN.{get_or}
-use lib.Ieee.{nan}
-use Rattle.newtonian.specs.Fold.{Fold, fold-none, fold_more}
-use Rattle.legendre.specs.GaussLegendre.{node, weight}
-use Rattle.legendre.specs.RuleEntries.{node_at, weight-at}
+use Rattle.newtonian.specs.Fold.{Fold}
 use Rattle.prism_cubature.specs.Cubature.{point}
 use Rattle.prism_cubature.proofs.add_line.Given as goal
 

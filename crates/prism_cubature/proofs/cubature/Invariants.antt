@@ -1,14 +1,9 @@
 -- `prism_cubature::cubature` meets its contract. Assumes nothing.
 use mathlib.Core.Path.{◌≡◌}
 use Prim.Native.Nat.{◌≤◌, ◌-◌}
-use native.Mathlib.Omega.{arith}
-use lib.ListN.{get_or}
-use lib.Ieee.{nan}
 use Rattle.newtonian.specs.Vectors.{zero_field}
-use Rattle.newtonian.specs.Fold.{Fold, fold-none, fold_more}
-use Rattle.legendre.specs.GaussLegendre.{node, weight}
-use Rattle.legendre.specs.RuleEntries.{node_at, weight-at}
-use Rattle.prism_cubature.specs.Cubature.{layer, cubature}
+use Rattle.newtonian.specs.Fold.{Fold}
+use Rattle.prism_cubature.specs.Cubature.{layer}
 use Rattle.prism_cubature.proofs.cubature.Given as goal
 
 abbrev pub invariant-loop-i : goal.invariant-loop-i

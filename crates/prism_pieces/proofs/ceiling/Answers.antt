@@ -1,11 +1,10 @@
 -- `prism_pieces::ceiling` meets its contract. Assumes nothing.
-use Prim.Native.Nat.{◌≤◌, ◌-◌, ◌+◌}
+use Prim.Native.Nat.{◌-◌}
 use mathlib.Core.Path.{◌≡◌}
-use mathlib.Core.Logic.{⊎_elim}
 use native.Mathlib.Omega.{arith}
 use Rattle.legendre.specs.GaussLegendre.{max_order}
-use Rattle.newtonian.specs.Fold.{Fold, fold-none, fold_more}
-use Rattle.prism_pieces.specs.Choice.{count_below, ceiling}
+use Rattle.newtonian.specs.Fold.{fold-none, fold_more}
+use Rattle.prism_pieces.specs.Choice.{ceiling}
 use borrow.Author.Rules.{rules}
 use Rattle.prism_pieces.proofs.ceiling.Goals.{else-i-x, then-i-x}
 use Rattle.prism_pieces.proofs.ceiling.Goals as goal

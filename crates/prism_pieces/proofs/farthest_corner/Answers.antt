@@ -1,10 +1,9 @@
 -- `prism_pieces::farthest_corner` meets its contract. Assumes nothing.
-use Prim.Native.Nat.{◌≤◌, ◌-◌}
+use Prim.Native.Nat.{◌-◌}
 use mathlib.Core.Path.{◌≡◌}
 use native.Mathlib.Omega.{arith}
-use Rattle.doubles.specs.Constants.{0·0}
-use Rattle.newtonian.specs.Fold.{Fold, fold-none, fold_more}
-use Rattle.prism_pieces.specs.Choice.{farther_corner, farthest_corner}
+use Rattle.newtonian.specs.Fold.{fold-none, fold_more}
+use Rattle.prism_pieces.specs.Choice.{farthest_corner}
 use borrow.Author.Rules.{rules}
 use Rattle.prism_pieces.proofs.farthest_corner.Goals as goal
 

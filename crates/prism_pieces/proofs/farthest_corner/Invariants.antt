@@ -1,10 +1,9 @@
 -- `prism_pieces::farthest_corner` meets its contract. Assumes nothing.
 use Prim.Native.Nat.{◌≤◌, ◌-◌}
 use mathlib.Core.Path.{◌≡◌}
-use native.Mathlib.Omega.{arith}
 use Rattle.doubles.specs.Constants.{0·0}
-use Rattle.newtonian.specs.Fold.{Fold, fold-none, fold_more}
-use Rattle.prism_pieces.specs.Choice.{farther_corner, farthest_corner}
+use Rattle.newtonian.specs.Fold.{Fold}
+use Rattle.prism_pieces.specs.Choice.{farther_corner}
 use Rattle.prism_pieces.proofs.farthest_corner.Given as goal
 
 abbrev pub invariant-loop-k : goal.invariant-loop-k

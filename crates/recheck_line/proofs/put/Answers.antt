@@ -1,4 +1,4 @@
-use Rattle.std.proofs.Common.{◌≡◌, ◌∙◌, arith}
+use Rattle.std.proofs.Common.{arith}
 use Rattle.recheck_line.proofs.Text.{put-turn, whole-text}
 use Rattle.recheck_line.proofs.put.Goals as goal
 

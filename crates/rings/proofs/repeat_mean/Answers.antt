@@ -2,8 +2,8 @@
 use mathlib.Core.Path.{refl}
 use Prim.Native.Nat.{◌-◌}
 use native.Mathlib.Omega.{arith}
-use Rattle.carlson.proofs.RoundLoop.{After, none_yet, tested, one-round, all_made}
-use Rattle.rings.specs.Elliptic.{max_means, mean_test, next_mean}
+use Rattle.carlson.proofs.RoundLoop.{none_yet, tested, one-round, all_made}
+use Rattle.rings.specs.Elliptic.{mean_test}
 use mathlib.Core.Bool.{not}
 use mathlib.Core.Path.{ap}
 use Rattle.rings.proofs.repeat_mean.Goals as goal

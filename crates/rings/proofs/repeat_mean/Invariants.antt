@@ -1,8 +1,6 @@
 -- `rings::repeat_mean` meets its contract. Assumes nothing.
-use mathlib.Core.Path.{refl}
 use Prim.Native.Nat.{◌-◌}
-use native.Mathlib.Omega.{arith}
-use Rattle.carlson.proofs.RoundLoop.{After, none_yet, tested, one-round, all_made}
+use Rattle.carlson.proofs.RoundLoop.{After}
 use Rattle.rings.specs.Elliptic.{max_means, mean_test, next_mean}
 use Rattle.rings.proofs.repeat_mean.Given as goal
 

@@ -1,7 +1,6 @@
 -- `sheet_layout::f64_at` meets its contract. Assumes nothing.
 use mathlib.Core.Path.{ap, ◌∙◌}
 use Prim.{tt}
-use native.Mathlib.Omega.{arith}
 use lib.Ieee.{binary64, of_bits}
 use Rattle.sheet_layout.proofs.f64_at.Goals as goal
 

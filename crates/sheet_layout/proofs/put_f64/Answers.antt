@@ -2,7 +2,6 @@
 use mathlib.Core.Path.{ap, ◌∙◌}
 use Prim.{tt}
 use Prim.Native.Nat.{ℕ}
-use native.Mathlib.Omega.{arith}
 use lib.Seq.{sets}
 use Rattle.sheet_layout.specs.LittleEndian.{bytes}
 use Rattle.sheet_layout.proofs.put_f64.Goals as goal

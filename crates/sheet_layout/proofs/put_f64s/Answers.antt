@@ -1,9 +1,8 @@
 -- `sheet_layout::put_f64s` meets its contract: so far, the first i numbers are written. Assumes nothing.
-use mathlib.Core.Path.{◌≡◌, refl, sym}
-use Prim.Native.Nat.{◌-◌, ◌≤◌}
+use mathlib.Core.Path.{refl, sym}
+use Prim.Native.Nat.{◌-◌}
 use native.Mathlib.Omega.{arith}
-use lib.ListN.{length, take, length-map}
-use lib.Seq.{sets}
+use lib.ListN.{length-map}
 use Rattle.sheet_layout.specs.LittleEndian.{pack, bits}
 use Rattle.sheet_layout.proofs.Bits.{bits_at}
 use Rattle.sheet_layout.proofs.Turns.{put-turn, put-end}

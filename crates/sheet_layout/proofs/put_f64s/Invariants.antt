@@ -1,12 +1,9 @@
 -- `sheet_layout::put_f64s` meets its contract: so far, the first i numbers are written. Assumes nothing.
-use mathlib.Core.Path.{◌≡◌, refl, sym}
+use mathlib.Core.Path.{◌≡◌}
 use Prim.Native.Nat.{◌-◌, ◌≤◌}
-use native.Mathlib.Omega.{arith}
-use lib.ListN.{length, take, length-map}
+use lib.ListN.{length, take}
 use lib.Seq.{sets}
 use Rattle.sheet_layout.specs.LittleEndian.{pack, bits}
-use Rattle.sheet_layout.proofs.Bits.{bits_at}
-use Rattle.sheet_layout.proofs.Turns.{put-turn, put-end}
 use Rattle.sheet_layout.proofs.put_f64s.Given as goal
 
 abbrev pub invariant-loop-i : goal.invariant-loop-i

@@ -1,9 +1,7 @@
 -- `sheet_layout::put_u32s` meets its contract: so far, the first i numbers are written. Assumes nothing.
-use mathlib.Core.Path.{refl, ◌≡◌}
-use Prim.Native.Nat.{◌-◌, ◌≤◌}
+use mathlib.Core.Path.{refl}
+use Prim.Native.Nat.{◌-◌}
 use native.Mathlib.Omega.{arith}
-use lib.ListN.{length, take}
-use lib.Seq.{sets}
 use Rattle.sheet_layout.specs.LittleEndian.{pack}
 use Rattle.sheet_layout.proofs.Turns.{put-turn, put-end}
 use Rattle.sheet_layout.proofs.put_u32s.Goals as goal

@@ -1,11 +1,9 @@
 -- `sheet_layout::put_u32s` meets its contract: so far, the first i numbers are written. Assumes nothing.
-use mathlib.Core.Path.{refl, ◌≡◌}
+use mathlib.Core.Path.{◌≡◌}
 use Prim.Native.Nat.{◌-◌, ◌≤◌}
-use native.Mathlib.Omega.{arith}
 use lib.ListN.{length, take}
 use lib.Seq.{sets}
 use Rattle.sheet_layout.specs.LittleEndian.{pack}
-use Rattle.sheet_layout.proofs.Turns.{put-turn, put-end}
 use Rattle.sheet_layout.proofs.put_u32s.Given as goal
 
 abbrev pub invariant-loop-i : goal.invariant-loop-i

@@ -1,6 +1,5 @@
 -- `sheet_layout::put_u64` meets its contract: two runs of four bytes are one of eight. Assumes nothing.
 use Prim.Native.Nat.{◌+◌, ◌/◌, ◌%◌}
-use native.Mathlib.Omega.{arith}
 use Rattle.sheet_layout.specs.LittleEndian.{bytes}
 use Rattle.sheet_layout.proofs.Stores.{sets_then}
 use Rattle.sheet_layout.proofs.Numbers.{bytes-length, bytes_eight}

@@ -1,9 +1,8 @@
 -- `sheet_layout::put_zeros` meets its contract. Assumes nothing.
 use mathlib.Core.Path.{◌≡◌, refl, ◌∙◌}
-use Prim.Native.Nat.{◌-◌, ◌≤◌}
+use Prim.Native.Nat.{◌-◌}
 use native.Mathlib.Omega.{arith}
-use lib.ListN.{length, replicate, length-set}
-use lib.Seq.{sets}
+use lib.ListN.{length-set}
 use Rattle.sheet_layout.proofs.Turns.{zero_turn}
 use Rattle.sheet_layout.proofs.put_zeros.Goals as goal
 

@@ -1,10 +1,8 @@
 -- `sheet_layout::put_zeros` meets its contract. Assumes nothing.
-use mathlib.Core.Path.{◌≡◌, refl, ◌∙◌}
+use mathlib.Core.Path.{◌≡◌}
 use Prim.Native.Nat.{◌-◌, ◌≤◌}
-use native.Mathlib.Omega.{arith}
-use lib.ListN.{length, replicate, length-set}
+use lib.ListN.{length, replicate}
 use lib.Seq.{sets}
-use Rattle.sheet_layout.proofs.Turns.{zero_turn}
 use Rattle.sheet_layout.proofs.put_zeros.Given as goal
 
 abbrev pub invariant-loop-i : goal.invariant-loop-i

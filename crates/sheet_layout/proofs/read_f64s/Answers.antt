@@ -1,11 +1,10 @@
 -- `sheet_layout::read_f64s` meets its contract: so far, the first i numbers are read. Assumes nothing.
-use mathlib.Core.Path.{◌≡◌, refl}
-use Prim.Native.Nat.{◌-◌, ◌≤◌}
+use mathlib.Core.Path.{refl}
+use Prim.Native.Nat.{◌-◌}
 use native.Mathlib.Omega.{arith}
-use lib.ListN.{length, length-set}
-use lib.Seq.{sets}
+use lib.ListN.{length-set}
 use lib.Ieee.{binary64, of_bits}
-use Rattle.sheet_layout.specs.LittleEndian.{unpack, doubles}
+use Rattle.sheet_layout.specs.LittleEndian.{unpack}
 use Rattle.sheet_layout.proofs.Turns.{read_turn, read_end}
 use Rattle.sheet_layout.proofs.read_f64s.Goals as goal
 

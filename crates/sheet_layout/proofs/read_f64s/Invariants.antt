@@ -1,12 +1,9 @@
 -- `sheet_layout::read_f64s` meets its contract: so far, the first i numbers are read. Assumes nothing.
-use mathlib.Core.Path.{◌≡◌, refl}
+use mathlib.Core.Path.{◌≡◌}
 use Prim.Native.Nat.{◌-◌, ◌≤◌}
-use native.Mathlib.Omega.{arith}
-use lib.ListN.{length, length-set}
+use lib.ListN.{length}
 use lib.Seq.{sets}
-use lib.Ieee.{binary64, of_bits}
 use Rattle.sheet_layout.specs.LittleEndian.{unpack, doubles}
-use Rattle.sheet_layout.proofs.Turns.{read_turn, read_end}
 use Rattle.sheet_layout.proofs.read_f64s.Given as goal
 
 abbrev pub invariant-loop-i : goal.invariant-loop-i

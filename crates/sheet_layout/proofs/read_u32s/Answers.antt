@@ -1,10 +1,8 @@
 -- `sheet_layout::read_u32s` meets its contract: so far, the first i numbers are read. Assumes nothing.
-use mathlib.Core.Path.{◌≡◌, refl, ◌∙◌}
-use mathlib.Core.List.{map}
-use Prim.Native.Nat.{◌-◌, ◌≤◌}
+use mathlib.Core.Path.{refl, ◌∙◌}
+use Prim.Native.Nat.{◌-◌}
 use native.Mathlib.Omega.{arith}
-use lib.ListN.{length, length-set}
-use lib.Seq.{sets}
+use lib.ListN.{length-set}
 use Rattle.sheet_layout.specs.LittleEndian.{unpack}
 use Rattle.sheet_layout.proofs.Turns.{read_turn, read_end, map_id}
 use Rattle.sheet_layout.proofs.read_u32s.Goals as goal

@@ -1,12 +1,10 @@
 -- `sheet_layout::read_u32s` meets its contract: so far, the first i numbers are read. Assumes nothing.
-use mathlib.Core.Path.{◌≡◌, refl, ◌∙◌}
+use mathlib.Core.Path.{◌≡◌}
 use mathlib.Core.List.{map}
 use Prim.Native.Nat.{◌-◌, ◌≤◌}
-use native.Mathlib.Omega.{arith}
-use lib.ListN.{length, length-set}
+use lib.ListN.{length}
 use lib.Seq.{sets}
 use Rattle.sheet_layout.specs.LittleEndian.{unpack}
-use Rattle.sheet_layout.proofs.Turns.{read_turn, read_end, map_id}
 use Rattle.sheet_layout.proofs.read_u32s.Given as goal
 
 abbrev pub invariant-loop-i : goal.invariant-loop-i

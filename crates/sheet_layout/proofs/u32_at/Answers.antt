@@ -1,6 +1,5 @@
 -- `sheet_layout::u32_at` meets its contract. Assumes nothing.
 use Prim.{tt}
-use native.Mathlib.Omega.{arith}
 use Rattle.sheet_layout.proofs.Numbers.{number-four}
 use Rattle.sheet_layout.proofs.u32_at.Goals as goal
 

@@ -1,5 +1,4 @@
 -- `sheet_layout::u64_at` meets its contract: eight bytes are four and four. Assumes nothing.
-use native.Mathlib.Omega.{arith}
 use Rattle.sheet_layout.proofs.Numbers.{number_eight}
 use Rattle.sheet_layout.proofs.u64_at.Goals as goal
 

@@ -1,8 +1,6 @@
 -- `special_bulirsch::repeat_turn` meets its contract. Assumes nothing.
-use mathlib.Core.Path.{refl}
 use Prim.Native.Nat.{◌-◌}
-use native.Mathlib.Omega.{arith}
-use Rattle.carlson.proofs.RoundLoop.{After, none_yet, tested, one-round, all_made}
+use Rattle.carlson.proofs.RoundLoop.{After}
 use Rattle.special_bulirsch.specs.Bulirsch.{max_turns, cel_test, turn}
 use Rattle.special_bulirsch.proofs.repeat_turn.Given as goal
 

@@ -1,9 +1,7 @@
 -- `special_rf_rd::repeat_d` meets its contract. Assumes nothing.
-use mathlib.Core.Path.{refl}
 use Prim.Native.Nat.{◌-◌}
-use native.Mathlib.Omega.{arith}
 use Rattle.carlson.specs.CarlsonLoop.{max_rounds}
-use Rattle.carlson.proofs.RoundLoop.{After, none_yet, tested, one-round, all_made}
+use Rattle.carlson.proofs.RoundLoop.{After}
 use Rattle.special_rf_rd.specs.Rd.{test_d, duplicate_d}
 use Rattle.special_rf_rd.proofs.repeat_d.Given as goal
 

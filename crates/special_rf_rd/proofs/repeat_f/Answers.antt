@@ -2,9 +2,7 @@
 use mathlib.Core.Path.{refl}
 use Prim.Native.Nat.{◌-◌}
 use native.Mathlib.Omega.{arith}
-use Rattle.carlson.specs.CarlsonLoop.{max_rounds}
-use Rattle.carlson.proofs.RoundLoop.{After, none_yet, tested, one-round, all_made}
-use Rattle.special_rf_rd.specs.Rf.{test_f, duplicate_f}
+use Rattle.carlson.proofs.RoundLoop.{none_yet, tested, one-round, all_made}
 use mathlib.Core.Bool.{not}
 use mathlib.Core.Path.{ap}
 use Rattle.special_rf_rd.proofs.repeat_f.Goals as goal

@@ -1,9 +1,7 @@
 -- `special_rf_rd::repeat_f` meets its contract. Assumes nothing.
-use mathlib.Core.Path.{refl}
 use Prim.Native.Nat.{◌-◌}
-use native.Mathlib.Omega.{arith}
 use Rattle.carlson.specs.CarlsonLoop.{max_rounds}
-use Rattle.carlson.proofs.RoundLoop.{After, none_yet, tested, one-round, all_made}
+use Rattle.carlson.proofs.RoundLoop.{After}
 use Rattle.special_rf_rd.specs.Rf.{test_f, duplicate_f}
 use Rattle.special_rf_rd.proofs.repeat_f.Given as goal
 

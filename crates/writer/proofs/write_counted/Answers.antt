@@ -55,8 +55,7 @@ put_sheet-cause-requires c =
     let Found : Solid → List ℕ → List ℕ → Type 0 = λ r p y. BodyChecked input work (lent input work out c.requires) r p y in
     let found : Found c.check_body.result c.check_body.new.work c.check_body.new.mates = let a = c.args in c.check_body.ensures a.magnetisation a.ambient a.stations.now in
     let mated : List ℕ = back input work out c.requires c.check_body.new.mates in
-    let fits : c.sheet_length-size.result ≤ length mated = omega (arith, c.sheet_length-size.ensures, (room input work out c.requires).1, back-size input work out c.requires found c.in-Volume.volume c.in-Volume.is) in
-    (
+    let fits : c.sheet_length-size.result ≤ length mated = omega (arith, c.sheet_length-size.ensures, (room input work out c.requires).1, back-size input work out c.requires found c.in-Volume.volume c.in-Volume.is) in (
       prepared input work out c.requires found c.in-Volume.volume c.in-Volume.is _ (length-take-le c.sheet_length-size.result mated fits ∙ c.sheet_length-size.ensures),
       stand input work out c.requires found c.in-Volume.volume c.in-Volume.is c.sheet_length-size.result c.sheet_length-size.ensures,
     )

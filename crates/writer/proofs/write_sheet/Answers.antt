@@ -19,13 +19,13 @@ returns-in-Refused c =
     let work : List ℕ = c.args.work.now in
     let out : List ℕ = c.args.out.now in
     let typed : Typed input = record {
-  kind = search rules;
-  vertices = λ i. c.shared_slice_known-1.given i;
-  faces = λ i. (c.shared_slice_known-2-1.given i).fits;
-  magnetisation = (search rules, (search rules, search rules));
-  ambient = (search rules, (search rules, search rules));
-  stations = λ i. c.shared_slice_known-3-1.given i;
-} in
+      kind = search rules;
+      vertices = λ i. c.shared_slice_known-1.given i;
+      faces = λ i. (c.shared_slice_known-2-1.given i).fits;
+      magnetisation = (search rules, (search rules, search rules));
+      ambient = (search rules, (search rules, search rules));
+      stations = λ i. c.shared_slice_known-3-1.given i;
+    } in
     let counts : (d : Cause) → c.lengths_cause-counts.result ≡ d → lengths_cause input (length work) (length out) ≡ d = λ d e. sym (c.lengths_cause-counts.ensures input (record { kind = refl; vertices = refl; faces = refl; stations = refl })) ∙ e in
     by_counts input typed work out c.in-Refused.r (counts (Refused c.in-Refused.r) c.in-Refused.is)
 
@@ -35,13 +35,13 @@ returns-in-Refused-numbers c =
     let work : List ℕ = c.args.work.now in
     let out : List ℕ = c.args.out.now in
     let typed : Typed input = record {
-  kind = search rules;
-  vertices = λ i. c.shared_slice_known-1.given i;
-  faces = λ i. (c.shared_slice_known-2-1.given i).fits;
-  magnetisation = (search rules, (search rules, search rules));
-  ambient = (search rules, (search rules, search rules));
-  stations = λ i. c.shared_slice_known-3-1.given i;
-} in
+      kind = search rules;
+      vertices = λ i. c.shared_slice_known-1.given i;
+      faces = λ i. (c.shared_slice_known-2-1.given i).fits;
+      magnetisation = (search rules, (search rules, search rules));
+      ambient = (search rules, (search rules, search rules));
+      stations = λ i. c.shared_slice_known-3-1.given i;
+    } in
     let counts : (d : Cause) → c.lengths_cause-counts.result ≡ d → lengths_cause input (length work) (length out) ≡ d = λ d e. sym (c.lengths_cause-counts.ensures input (record { kind = refl; vertices = refl; faces = refl; stations = refl })) ∙ e in
     let numbers : (d : Cause) → c.number_cause-numbers.result ≡ d → out_of_limits input ≡ d = λ d e. let a = c.args in sym (c.number_cause-numbers.ensures a.kind a.faces.now) ∙ e in
     by_limits input typed work out c.in-Refused-numbers.r (counts None c.in_default.is) (numbers (Refused c.in-Refused-numbers.r) c.in-Refused-numbers.is)
@@ -52,13 +52,13 @@ returns c =
     let work : List ℕ = c.args.work.now in
     let out : List ℕ = c.args.out.now in
     let typed : Typed input = record {
-  kind = search rules;
-  vertices = λ i. c.shared_slice_known-1.given i;
-  faces = λ i. (c.shared_slice_known-2-1.given i).fits;
-  magnetisation = (search rules, (search rules, search rules));
-  ambient = (search rules, (search rules, search rules));
-  stations = λ i. c.shared_slice_known-3-1.given i;
-} in
+      kind = search rules;
+      vertices = λ i. c.shared_slice_known-1.given i;
+      faces = λ i. (c.shared_slice_known-2-1.given i).fits;
+      magnetisation = (search rules, (search rules, search rules));
+      ambient = (search rules, (search rules, search rules));
+      stations = λ i. c.shared_slice_known-3-1.given i;
+    } in
     let counts : (d : Cause) → c.lengths_cause-counts.result ≡ d → lengths_cause input (length work) (length out) ≡ d = λ d e. sym (c.lengths_cause-counts.ensures input (record { kind = refl; vertices = refl; faces = refl; stations = refl })) ∙ e in
     let numbers : (d : Cause) → c.number_cause-numbers.result ≡ d → out_of_limits input ≡ d = λ d e. let a = c.args in sym (c.number_cause-numbers.ensures a.kind a.faces.now) ∙ e in
     later input typed work out (counts None c.in_default.is) (numbers None c.in_default-numbers.is) c.write_counted.ensures

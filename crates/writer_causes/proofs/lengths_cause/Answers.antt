@@ -4,7 +4,6 @@ use mathlib.Core.Bool.{true}
 use Prim.{tt}
 use Prim.Native.Nat.{◌/◌}
 use native.Mathlib.Omega.{arith}
-use borrow.Author.Tests.{not-true, not-false}
 use Rattle.sheet_rows.specs.Kinds.{within_counts}
 use Rattle.sheet_rows.proofs.Counts.{counts_each}
 use Rattle.writer_causes.specs.LengthsCause.{well_formed}

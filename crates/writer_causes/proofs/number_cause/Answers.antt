@@ -1,6 +1,5 @@
 -- `writer_causes::number_cause` meets its contract: cause 3 of vertices, fields and stations. Assumes nothing.
 use mathlib.Core.Path.{sym, ◌∙◌}
-use borrow.Author.Tests.{not-true, not-false}
 use Rattle.anomaly.specs.Limits.{both_within_limits}
 use Rattle.sheet.specs.Writer.{out_of_limits}
 use Rattle.writer_causes.proofs.number_cause.Goals as goal

@@ -1,7 +1,6 @@
 -- `writer_parts::put_end` meets its contract. Assumes nothing.
 use mathlib.Core.List.{List}
 use Prim.Native.Nat.{◌-◌}
-use native.Mathlib.Omega.{arith}
 use lib.ListN.{length}
 use Rattle.sheet_layout.specs.Parts.{Part}
 use Rattle.sheet.specs.Bytes.{trailer_length}

@@ -1,5 +1,4 @@
 -- `writer_parts::put_trailer` meets its contract. Assumes nothing.
-use native.Mathlib.Omega.{arith}
 use Rattle.writer_parts.proofs.Pieces.{trailer}
 use Rattle.writer_parts.proofs.put_trailer.Goals as goal
 

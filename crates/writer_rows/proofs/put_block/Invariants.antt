@@ -1,17 +1,12 @@
 -- `writer_rows::put_block` meets its contract: before turn j the rows of j more stations are written, and none of them is refused. Assumes nothing.
-use mathlib.Core.Path.{◌≡◌, refl, sym, ap, ◌∙◌, subst}
+use mathlib.Core.Path.{◌≡◌}
 use mathlib.Core.List.{List}
 use Prim.Native.Nat.{ℕ, ◌+◌, ◌*◌, ◌-◌, ◌≤◌}
-use native.Mathlib.Omega.{arith}
 use lib.Ieee.{Float}
 use lib.ListN.{length}
-use Rattle.refusals.specs.declared.Cause.TheVariants.{None, Refused}
-use Rattle.refusals.proofs.Causes.{more}
 use Rattle.sheet_rows.specs.Kinds.{row_width}
-use Rattle.sheet.specs.Input.{SheetInput, input_of}
-use Rattle.sheet.specs.Writer.{station_cause}
-use Rattle.writer_rows.specs.Rows.{RowPut, FieldsAt, RowsUpTo}
-use Rattle.writer_rows.proofs.RowLaws.{not_none, next, row_written, row-left, up_to-refused}
+use Rattle.sheet.specs.Input.{input_of}
+use Rattle.writer_rows.specs.Rows.{FieldsAt, RowsUpTo}
 use Rattle.writer_rows.proofs.put_block.Given as goal
 
 abbrev pub invariant-loop-j : goal.invariant-loop-j

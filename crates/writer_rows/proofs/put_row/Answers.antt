@@ -3,15 +3,13 @@ use mathlib.Core.Path.{◌≡◌, refl, sym, ap, ◌∙◌}
 use mathlib.Core.Bool.{true, false}
 use mathlib.Core.List.{List}
 use Prim.Native.Nat.{ℕ}
-use native.Mathlib.Omega.{arith}
 use lib.Seq.{sets}
 use lib.Ieee.{Float}
-use Rattle.refusals.specs.Answer.{Answer, value}
 use Rattle.newtonian.specs.Field as newtonian
 use Rattle.mesh.specs.Surface.{vertex}
 use Rattle.sheet_layout.specs.LittleEndian.{pack, bits}
 use Rattle.sheet_rows.specs.Row.{answer_of, field_at}
-use Rattle.sheet.specs.Input.{SheetInput, row_at, input_of}
+use Rattle.sheet.specs.Input.{row_at, input_of}
 use Rattle.sheet.specs.Bytes.{numbers_of}
 use Rattle.writer_rows.proofs.RowLaws.{of_row, of_refused, row_is}
 use Rattle.writer_rows.proofs.put_row.Goals as goal

@@ -1,17 +1,9 @@
 -- `writer_rows::put_rows` meets its contract: the rows of the blocks so far are written, and none of their stations is refused. Assumes nothing.
-use mathlib.Core.Path.{◌≡◌, refl, ap, ◌∙◌, subst}
-use Prim.Native.Nat.{ℕ, ◌+◌, ◌-◌, ◌/◌, ◌≤◌}
-use native.Mathlib.Omega.{arith}
+use mathlib.Core.Path.{◌≡◌}
+use Prim.Native.Nat.{◌-◌, ◌/◌, ◌≤◌}
 use lib.ListN.{length}
-use Rattle.refusals.specs.Causes.{first_of}
-use Rattle.refusals.specs.declared.Cause.{Cause}
-use Rattle.newtonian.specs.declared.Vector.{Vector}
-use Rattle.sheet_layout.specs.LittleEndian.{pack}
-use Rattle.sheet_rows.specs.Row.{field_at}
-use Rattle.sheet.specs.Input.{SheetInput, input_of}
-use Rattle.sheet.specs.Bytes.{rows}
-use Rattle.writer_rows.specs.Rows.{RowsUpTo, BlockPut, RowsPut}
-use Rattle.writer_rows.proofs.RowLaws.{all-rows}
+use Rattle.sheet.specs.Input.{input_of}
+use Rattle.writer_rows.specs.Rows.{RowsUpTo}
 use Rattle.writer_rows.proofs.put_rows.Given as goal
 
 abbrev pub invariant-loop-first : goal.invariant-loop-first

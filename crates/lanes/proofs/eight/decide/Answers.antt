@@ -1,6 +1,6 @@
 -- `lanes::eight::decide` meets its contract. Assumes nothing.
-use Rattle.std.proofs.Common.{◌-◌, arith, rules}
-use Rattle.lanes.proofs.Trying.{Tried, none_tried, one_tried, all_tried}
+use Rattle.std.proofs.Common.{◌-◌, arith}
+use Rattle.lanes.proofs.Trying.{none_tried, one_tried, all_tried}
 use Rattle.lanes.proofs.eight.decide.Goals as goal
 
 pub loop-k-init : goal.loop-k-init

@@ -1,5 +1,4 @@
 -- `lanes::lane::assembled` meets its contract. Assumes nothing.
-use Rattle.std.proofs.Common.{rules}
 use Rattle.doubles.proofs.Fields.{no_nan}
 use Rattle.lanes.proofs.LanePatterns.{joined-le, assembled_root}
 use Rattle.lanes.proofs.lane.assembled.Goals as goal

@@ -1,5 +1,5 @@
 -- `lanes::lane::not_nearest` meets its contract: the arithmetic is in `SignBits.antt`. Assumes nothing.
-use Rattle.std.proofs.Common.{◌∙◌, arith, rules}
+use Rattle.std.proofs.Common.{◌∙◌, arith}
 use Rattle.roots.proofs.Trial.{product_fits}
 use Rattle.lanes.proofs.SignBits.{g_lt, gh_fits, hh_fits, rest_fits, near_clear}
 use Rattle.lanes.proofs.lane.not_nearest.Goals as goal

@@ -1,5 +1,4 @@
 -- `lanes::lane::not_normal` meets its contract: the arithmetic is in `SignBits.antt`. Assumes nothing.
-use Rattle.std.proofs.Common.{rules}
 use Rattle.lanes.proofs.SignBits.{normal_clear}
 use Rattle.lanes.proofs.lane.not_normal.Goals as goal
 

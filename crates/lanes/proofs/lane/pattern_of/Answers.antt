@@ -1,5 +1,4 @@
 -- `lanes::lane::pattern_of` meets its contract. Assumes nothing.
-use Rattle.std.proofs.Common.{rules}
 use Rattle.doubles.proofs.Signs.{true→T}
 use Rattle.lanes.proofs.LanePatterns.{less-number, top, top-number, pattern_is}
 use Rattle.lanes.proofs.lane.pattern_of.Goals as goal

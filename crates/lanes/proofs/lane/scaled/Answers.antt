@@ -1,5 +1,5 @@
 -- `lanes::lane::scaled` meets its contract: the digits are in `LanePatterns.antt`. Assumes nothing.
-use Rattle.std.proofs.Common.{◌/◌, arith, rules}
+use Rattle.std.proofs.Common.{◌/◌, arith}
 use lib.Bits.{and_le_l}
 use Rattle.roots.proofs.Scale.{digits-fit}
 use Rattle.lanes.proofs.LanePatterns.{n_of, scaled-is}

@@ -1,5 +1,4 @@
 -- `lanes::lane::significand` meets its contract. Assumes nothing.
-use Rattle.std.proofs.Common.{rules}
 use lib.Ieee.{binary64, of_bits, is_nan}
 use Rattle.lanes.proofs.LanePatterns.{less-number}
 use Rattle.lanes.proofs.lane.significand.Goals as goal

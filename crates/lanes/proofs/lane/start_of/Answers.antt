@@ -1,5 +1,5 @@
 -- `lanes::lane::start_of` meets its contract. Assumes nothing.
-use Rattle.std.proofs.Common.{arith, rules}
+use Rattle.std.proofs.Common.{arith}
 use Rattle.doubles.proofs.Fields.{no_nan}
 use Rattle.lanes.proofs.lane.start_of.Goals as goal
 

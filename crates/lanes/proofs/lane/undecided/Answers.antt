@@ -1,5 +1,4 @@
 -- `lanes::lane::undecided` meets its contract. Assumes nothing.
-use Rattle.std.proofs.Common.{rules}
 use Rattle.lanes.proofs.SignBits.{or_clear}
 use Rattle.lanes.proofs.lane.undecided.Goals as goal
 

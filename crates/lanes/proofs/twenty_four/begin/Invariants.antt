@@ -1,7 +1,6 @@
 -- `lanes::twenty_four::begin` meets its contract. Assumes nothing.
-use Rattle.std.proofs.Common.{◌≡◌, ◌-◌, length, le_of_lt, arith, length-set, rules}
-use Rattle.doubles.proofs.Fields.{no_nan}
-use Rattle.lanes.proofs.Trying.{Known, none-known, one_known, all_known}
+use Rattle.std.proofs.Common.{◌≡◌, ◌-◌, length}
+use Rattle.lanes.proofs.Trying.{Known}
 use Rattle.lanes.proofs.twenty_four.begin.Given as goal
 
 abbrev pub invariant-loop-k : goal.invariant-loop-k

@@ -1,6 +1,6 @@
 -- `lanes::twenty_four::decide` meets its contract. Assumes nothing.
-use Rattle.std.proofs.Common.{◌-◌, arith, rules}
-use Rattle.lanes.proofs.Trying.{Tried, none_tried, one_tried, all_tried}
+use Rattle.std.proofs.Common.{◌-◌}
+use Rattle.lanes.proofs.Trying.{Tried}
 use Rattle.lanes.proofs.twenty_four.decide.Given as goal
 
 abbrev pub invariant-loop-k : goal.invariant-loop-k

@@ -1,5 +1,5 @@
 -- `lanes::twenty_four::refine` meets its contract. Assumes nothing.
-use Rattle.std.proofs.Common.{◌≡◌, ◌-◌, length, length-set, rules}
+use Rattle.std.proofs.Common.{◌≡◌, ◌-◌, length}
 use Rattle.lanes.proofs.twenty_four.refine.Given as goal
 
 abbrev pub invariant-loop-k : goal.invariant-loop-k

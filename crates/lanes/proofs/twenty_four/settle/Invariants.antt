@@ -1,9 +1,8 @@
 -- `lanes::twenty_four::settle` meets its contract. Assumes nothing.
-use Rattle.std.proofs.Common.{ℕ, ◌-◌, ⊎_elim, arith, rules}
+use Rattle.std.proofs.Common.{ℕ, ◌-◌}
 use Rattle.roots.specs.Root.{Root}
 use Rattle.lanes.specs.Lanes.{lane}
-use Rattle.lanes.proofs.Filling.{Filled, none_filled, one-filled, all-filled}
-use Rattle.lanes.proofs.Trying.{kept-filled}
+use Rattle.lanes.proofs.Filling.{Filled}
 use Rattle.lanes.proofs.twenty_four.settle.Given as goal
 
 abbrev pub invariant-loop-k : goal.invariant-loop-k

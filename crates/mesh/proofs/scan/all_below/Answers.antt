@@ -1,12 +1,9 @@
 -- `mesh::scan::all_below` meets its contract: whether the corners so far are below the number of vertices. Assumes nothing.
-use mathlib.Core.Path.{◌≡◌, sym, ◌∙◌}
-use mathlib.Core.Bool.{true}
-use Prim.Native.Nat.{◌-◌, ◌/◌, ◌≤◌}
+use mathlib.Core.Path.{sym, ◌∙◌}
+use Prim.Native.Nat.{◌-◌, ◌/◌}
 use native.Mathlib.Omega.{arith}
 use lib.ListN.{length}
 use Rattle.refusals.specs.declared.Refusal.TheVariants.{NoSuchVertex}
-use Rattle.refusals.specs.declared.Cause.TheVariants.{None}
-use Rattle.refusals.specs.Causes.{unless, first_of}
 use Rattle.mesh.specs.Check.{names_vertex, no_such_vertex}
 use Rattle.mesh.proofs.Scans.{scan_start, all_more, scan_end}
 use Rattle.mesh.proofs.scan.all_below.Goals as goal

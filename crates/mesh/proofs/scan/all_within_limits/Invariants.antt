@@ -1,13 +1,10 @@
 -- `mesh::scan::all_within_limits` meets its contract: whether the numbers so far are within limits. Assumes nothing.
-use mathlib.Core.Path.{◌≡◌, sym, ap, ◌∙◌}
-use mathlib.Core.Bool.{Bool, ◌&&◌}
-use Prim.Native.Nat.{ℕ, ◌-◌, ◌≤◌}
-use native.Mathlib.Omega.{arith}
+use mathlib.Core.Path.{◌≡◌}
+use Prim.Native.Nat.{◌-◌, ◌≤◌}
 use lib.ListN.{length}
 use Rattle.refusals.specs.declared.Refusal.TheVariants.{OutOfLimits}
 use Rattle.refusals.specs.Causes.{unless, first_of}
-use Rattle.mesh.specs.Check.{in_limits, out_of_limits}
-use Rattle.mesh.proofs.Scans.{scan_start, noted_more}
+use Rattle.mesh.specs.Check.{in_limits}
 use Rattle.mesh.proofs.scan.all_within_limits.Given as goal
 
 abbrev pub invariant-loop-i : goal.invariant-loop-i

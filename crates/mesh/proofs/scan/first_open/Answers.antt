@@ -1,12 +1,11 @@
 -- `mesh::scan::first_open` meets its contract: the reverse of each edge so far occurs. Assumes nothing.
 use mathlib.Core.Path.{◌≡◌, sym, ap, ap₂, subst, ◌∙◌}
 use mathlib.Core.List.{List}
-use Prim.Native.Nat.{ℕ, ◌-◌, ◌≤◌}
+use Prim.Native.Nat.{ℕ, ◌-◌}
 use native.Mathlib.Omega.{arith}
 use lib.ListN.{length}
-use borrow.Author.Tests.{not-true, not-false}
 use Rattle.refusals.specs.declared.Refusal.TheVariants.{Open}
-use Rattle.refusals.specs.declared.Cause.TheVariants.{None, Refused}
+use Rattle.refusals.specs.declared.Cause.TheVariants.{Refused}
 use Rattle.refusals.specs.Causes.{unless, first_of}
 use Rattle.mesh_orders.specs.Order.{Uses}
 use Rattle.mesh_orders.specs.OrderLaws.{order-length, order-uses}

@@ -1,14 +1,11 @@
 -- `mesh::scan::no_such_vertex` meets its contract: the corners so far name vertices. Assumes nothing.
-use mathlib.Core.Path.{◌≡◌, sym}
+use mathlib.Core.Path.{◌≡◌}
 use Prim.Native.Nat.{◌-◌, ◌/◌, ◌≤◌}
-use native.Mathlib.Omega.{arith}
 use lib.ListN.{length}
-use borrow.Author.Tests.{lt-ltb, le-ltb}
 use Rattle.refusals.specs.declared.Refusal.TheVariants.{NoSuchVertex}
 use Rattle.refusals.specs.declared.Cause.TheVariants.{None}
 use Rattle.refusals.specs.Causes.{unless, first_of}
-use Rattle.mesh.specs.Check.{names_vertex, no_such_vertex}
-use Rattle.mesh.proofs.Scans.{scan_start, scan_more, scan_stop, scan_end}
+use Rattle.mesh.specs.Check.{names_vertex}
 use Rattle.mesh.proofs.scan.no_such_vertex.Given as goal
 
 abbrev pub invariant-loop-i : goal.invariant-loop-i

@@ -1,7 +1,6 @@
 -- `mesh::scan::out_of_limits` meets its contract. Assumes nothing.
 use mathlib.Core.Path.{sym, ap, ◌∙◌}
 use mathlib.Core.Bool.{Bool}
-use borrow.Author.Tests.{not-true, not-false}
 use Rattle.refusals.specs.declared.Refusal.TheVariants.{OutOfLimits}
 use Rattle.refusals.specs.Causes.{unless}
 use Rattle.mesh.proofs.scan.out_of_limits.Goals as goal

@@ -1,14 +1,10 @@
 -- `mesh::surface::check_faces` meets its contract: the faces so far have normals, and the sum so far is the fold so far. Assumes nothing.
-use mathlib.Core.Path.{◌≡◌, sym, ap, ◌∙◌}
+use mathlib.Core.Path.{◌≡◌}
 use Prim.Native.Nat.{◌-◌, ◌≤◌}
-use native.Mathlib.Omega.{arith}
 use Rattle.doubles.specs.Constants.{0·0}
-use Rattle.newtonian.specs.Fold.{Fold, fold-none, fold_more}
-use Rattle.refusals.specs.declared.Cause.{Cause}
-use Rattle.refusals.specs.Causes.{or_else}
-use Rattle.mesh.specs.Surface.{face_count, is_zero, add_face_volume, volume}
-use Rattle.mesh.specs.Check.{inverted, faces_cause, solid_of}
-use Rattle.mesh.proofs.Faces.{Normals, normals-start, normals-more, normals_stop, normals-end, sum-end}
+use Rattle.newtonian.specs.Fold.{Fold}
+use Rattle.mesh.specs.Surface.{face_count, add_face_volume}
+use Rattle.mesh.proofs.Faces.{Normals}
 use Rattle.mesh.proofs.surface.check_faces.Given as goal
 
 abbrev pub invariant-loop-k : goal.invariant-loop-k

@@ -1,8 +1,6 @@
 -- `mesh_orders::mates::lower` meets its contract: edges before lo are below e, and edges from hi on are not. Assumes nothing.
-use Prim.Native.Nat.{ℕ, ◌+◌, ◌-◌, ◌/◌, ◌<◌, ◌≤◌}
-use native.Mathlib.Omega.{arith}
+use Prim.Native.Nat.{ℕ, ◌-◌, ◌<◌, ◌≤◌}
 use lib.ListN.{length, get_or}
-use Rattle.lists.proofs.Sorting.{sorted_le}
 use Rattle.mesh_orders.specs.Edges.{edge}
 use Rattle.mesh_orders.proofs.mates.lower.Given as goal
 

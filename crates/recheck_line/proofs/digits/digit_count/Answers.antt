@@ -1,4 +1,4 @@
-use Rattle.std.proofs.Common.{◌≡◌, ℕ, ◌+◌, ◌/◌, ◌<◌, ap, ◌∙◌, arith}
+use Rattle.std.proofs.Common.{ℕ, ◌/◌, ◌<◌, ap, ◌∙◌, arith}
 use Rattle.recheck_line.proofs.Powers.{two-mul-div-le, div-pow-one, div-pow-div, pow-le_of_div_pos, lt-pow_of_div-zero}
 use Rattle.recheck_line.proofs.digits.digit_count.Goals as goal
 
