@@ -1,7 +1,7 @@
 /* body_sheet BODY STATIONS SHEET: makes the sheet of a body of triangles.
    BODY and STATIONS are text: lines `v x y z`, a point in metres, and `f a b c`, a triangle of the points with these numbers, counted from 1 and
    counter-clockwise seen from outside. examples/make_body.py makes both files.
-   Build, at the repository's root, after `rt staticlib physica`: sh examples/build.sh
+   Build, at the repository's root, after `sh tools/library.sh`: sh examples/build.sh
    Run: target/examples/body_sheet BODY STATIONS SHEET */
 #include <stdlib.h>
 #include <string.h>

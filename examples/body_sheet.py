@@ -3,7 +3,7 @@
 
 BODY and STATIONS are text: lines `v x y z`, a point in metres, and `f a b c`, a triangle of the points with these numbers, counted from 1 and
 counter-clockwise seen from outside. examples/make_body.py makes both files.
-Build the library that it loads, at the repository's root, after `rt staticlib physica`: sh examples/build.sh
+Build the library that it loads, at the repository's root, after `sh tools/library.sh`: sh examples/build.sh
 Run: python3 examples/body_sheet.py BODY STATIONS SHEET
 """
 import ctypes

@@ -1,12 +1,12 @@
 #!/bin/sh
-# build.sh: builds the C programs, the shared library that the Python programs load, and the C++ program, into target/examples. After `rt staticlib physica`.
+# build.sh: builds the C programs, the shared library that the Python programs load, and the C++ program, into target/examples. After `sh tools/library.sh`.
 set -e
 cd "$(dirname "$0")/.."
 library=target/staticlib/libphysica.a
 out=target/examples
 flags="-O2 -Wall -Wextra -pedantic -Iinclude"
 if [ ! -e $library ]; then
-    echo "$library is not there: run \`rt staticlib physica\`" >&2
+    echo "$library is not there: run \`sh tools/library.sh\`" >&2
     exit 1
 fi
 mkdir -p $out

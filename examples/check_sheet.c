@@ -1,5 +1,5 @@
 /* check_sheet FILE: checks a sheet, prints the line that `recheck` prints and, if it is accepted, each station with its row.
-   Build, at the repository's root, after `rt staticlib physica`: sh examples/build.sh
+   Build, at the repository's root, after `sh tools/library.sh`: sh examples/build.sh
    Run: target/examples/check_sheet FILE */
 #include <stdlib.h>
 

@@ -1,7 +1,7 @@
 #!/usr/bin/env python3
 """check_sheet.py FILE: checks a sheet, prints the line that `recheck` prints and, if it is accepted, each station with its row.
 
-Build the library that it loads, at the repository's root, after `rt staticlib physica`: sh examples/build.sh
+Build the library that it loads, at the repository's root, after `sh tools/library.sh`: sh examples/build.sh
 Run: python3 examples/check_sheet.py FILE
 """
 import ctypes

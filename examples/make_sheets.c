@@ -1,5 +1,5 @@
 /* make_sheets FOLDER: writes the sheets of examples/sheets into FOLDER: a mesh and a prism with their stations, and damaged copies of the mesh's.
-   Build, at the repository's root, after `rt staticlib physica`: sh examples/build.sh
+   Build, at the repository's root, after `sh tools/library.sh`: sh examples/build.sh
    Run: target/examples/make_sheets FOLDER */
 #include <string.h>
 

@@ -1,6 +1,6 @@
 /* read_obj FILE: reads a shape model in Wavefront OBJ, checks its mesh and prints how many vertices and faces it has, and its volume.
    What of OBJ is read, and how other files are brought into that form: docs/FOR-AUTHORS.md.
-   Build, at the repository's root, after `rt staticlib physica`: sh examples/build.sh
+   Build, at the repository's root, after `sh tools/library.sh`: sh examples/build.sh
    Run: target/examples/read_obj FILE */
 #include <stdlib.h>
 #include <string.h>

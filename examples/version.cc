@@ -1,5 +1,5 @@
 // version: prints the versions of header and library, 100 * major + minor each; status 1 where they differ. It shows that physica.h serves C++ too.
-// Build, at the repository's root, after `rt staticlib physica`: sh examples/build.sh
+// Build, at the repository's root, after `sh tools/library.sh`: sh examples/build.sh
 // Run: target/examples/version
 #include <cstdio>
 

@@ -9,7 +9,7 @@ fn main() {
     });
     let archive = dir.join("libphysica.a");
     if !archive.exists() {
-        panic!("{} is not there: run `rt staticlib physica` at the repository's root, or set PHYSICA_LIB_DIR", archive.display());
+        panic!("{} is not there: run `sh tools/library.sh` at the repository's root, or set PHYSICA_LIB_DIR", archive.display());
     }
     println!("cargo:rerun-if-changed={}", archive.display());
     println!("cargo:rustc-link-search=native={}", dir.display());

@@ -2,7 +2,7 @@
 """accuracy.py LIBRARY: prints the tables of docs/ACCURACY.md, and the inputs of docs/DIFFERENCES.md's section on the Rust's comments.
 
 Fields of the library against closed forms at 100 digits. It needs Python 3 with mpmath and about a minute of one core. LIBRARY is the shared object
-that `sh examples/build.sh` makes after `rt staticlib physica`: target/examples/libphysica.so
+that `sh examples/build.sh` makes after `sh tools/library.sh`: target/examples/libphysica.so
 """
 import ctypes
 import os

@@ -1,6 +1,6 @@
 #!/bin/sh
 # build.sh OUT REFERENCE LIBRARY: builds OUT/compare and OUT/bench with rustc alone. REFERENCE is the folder that reference/build.sh filled, LIBRARY the
-# folder with libphysica.a (target/staticlib after `rt staticlib physica`).
+# folder with libphysica.a (target/staticlib after `sh tools/library.sh`).
 set -e
 here=$(cd "$(dirname "$0")" && pwd)
 usage="usage: build.sh OUT REFERENCE LIBRARY"

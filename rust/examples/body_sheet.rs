@@ -3,7 +3,7 @@
 //! BODY and STATIONS are text: lines `v x y z`, a point in metres, and `f a b c`, a triangle of the points with these numbers, counted from 1 and
 //! counter-clockwise seen from outside. examples/make_body.py makes both files.
 //!
-//! At the repository's root, after `rt staticlib physica`:
+//! At the repository's root, after `sh tools/library.sh`:
 //!   cargo run --offline --manifest-path rust/Cargo.toml --example body_sheet -- BODY STATIONS SHEET
 use physica::{Mesh, Refusal, Vector};
 use std::error::Error;

@@ -1,6 +1,6 @@
 //! check_sheet FILE: checks a sheet, prints the line that `recheck` prints and, if it is accepted, each station with its row.
 //!
-//! At the repository's root, after `rt staticlib physica`:
+//! At the repository's root, after `sh tools/library.sh`:
 //!   cargo run --offline --manifest-path rust/Cargo.toml --example check_sheet -- FILE
 use std::process::ExitCode;
 

@@ -1,7 +1,7 @@
 //! Gravity and magnetic fields of meshes and prisms, elliptic integrals, result sheets and their check: safe calls of the static library `libphysica.a`,
 //! whose functions are proved equal to published definitions, bit for bit. Every call ends with its answer or a numbered [`Refusal`].
 //!
-//! Build the library first, at the repository's root: `rt staticlib physica`. The variable `PHYSICA_LIB_DIR` names another folder that holds it.
+//! Build the library first, at the repository's root: `sh tools/library.sh`. The variable `PHYSICA_LIB_DIR` names another folder that holds it.
 //!
 //! A body is a [`Mesh`]; a sheet's bytes are read by [`Sheet`]. The functions beside them are the library's calls one by one, on lent lists.
 //!

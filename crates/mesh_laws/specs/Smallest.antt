@@ -2,7 +2,7 @@
 -- `pass_all`: it finds none exactly where every edge passes; `first-fail`: what a scan for the first test that fails finds. Assumes nothing.
 use Rattle.std.proofs.Math.Path.{◌≡◌, refl}
 use Rattle.std.proofs.Common.{sym, ap, ap₂, ◌∙◌, inl, inr, ⊎_elim, arith}
-use Rattle.std.specs.Prelude.{Bool, true, false, List, ◌⊎◌, length, get_or}
+use Rattle.std.specs.Prelude.{Bool, true, false, List, length, get_or}
 use Prim.Native.Nat.{ℕ, zero, suc, ◌≤◌, ◌<◌}
 use Rattle.refusals.specs.declared.Refusal.{Refusal}
 use Rattle.refusals.specs.declared.Cause.{Cause}

@@ -1,9 +1,7 @@
 -- `rings::repeat_mean` meets its contract. Assumes nothing.
 use mathlib.Core.Path.{refl}
-use Prim.Native.Nat.{◌-◌}
 use native.Mathlib.Omega.{arith}
 use Rattle.carlson.proofs.RoundLoop.{none_yet, tested, one-round, all_made}
-use Rattle.rings.specs.Elliptic.{mean_test}
 use mathlib.Core.Bool.{not}
 use mathlib.Core.Path.{ap}
 use Rattle.rings.proofs.repeat_mean.Goals as goal

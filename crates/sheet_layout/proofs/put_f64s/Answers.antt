@@ -1,6 +1,5 @@
 -- `sheet_layout::put_f64s` meets its contract: so far, the first i numbers are written. Assumes nothing.
 use mathlib.Core.Path.{refl, sym}
-use Prim.Native.Nat.{◌-◌}
 use native.Mathlib.Omega.{arith}
 use lib.ListN.{length-map}
 use Rattle.sheet_layout.specs.LittleEndian.{pack, bits}

@@ -1,6 +1,5 @@
 -- `sheet_layout::put_u32s` meets its contract: so far, the first i numbers are written. Assumes nothing.
 use mathlib.Core.Path.{refl}
-use Prim.Native.Nat.{◌-◌}
 use native.Mathlib.Omega.{arith}
 use Rattle.sheet_layout.specs.LittleEndian.{pack}
 use Rattle.sheet_layout.proofs.Turns.{put-turn, put-end}

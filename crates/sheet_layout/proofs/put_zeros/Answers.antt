@@ -1,6 +1,5 @@
 -- `sheet_layout::put_zeros` meets its contract. Assumes nothing.
 use mathlib.Core.Path.{◌≡◌, refl, ◌∙◌}
-use Prim.Native.Nat.{◌-◌}
 use native.Mathlib.Omega.{arith}
 use lib.ListN.{length-set}
 use Rattle.sheet_layout.proofs.Turns.{zero_turn}

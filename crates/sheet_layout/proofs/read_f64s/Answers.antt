@@ -1,6 +1,5 @@
 -- `sheet_layout::read_f64s` meets its contract: so far, the first i numbers are read. Assumes nothing.
 use mathlib.Core.Path.{refl}
-use Prim.Native.Nat.{◌-◌}
 use native.Mathlib.Omega.{arith}
 use lib.ListN.{length-set}
 use lib.Ieee.{binary64, of_bits}

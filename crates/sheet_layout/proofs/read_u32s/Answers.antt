@@ -1,6 +1,5 @@
 -- `sheet_layout::read_u32s` meets its contract: so far, the first i numbers are read. Assumes nothing.
 use mathlib.Core.Path.{refl, ◌∙◌}
-use Prim.Native.Nat.{◌-◌}
 use native.Mathlib.Omega.{arith}
 use lib.ListN.{length-set}
 use Rattle.sheet_layout.specs.LittleEndian.{unpack}

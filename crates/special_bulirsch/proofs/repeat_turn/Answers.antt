@@ -1,9 +1,7 @@
 -- `special_bulirsch::repeat_turn` meets its contract. Assumes nothing.
 use mathlib.Core.Path.{refl}
-use Prim.Native.Nat.{◌-◌}
 use native.Mathlib.Omega.{arith}
 use Rattle.carlson.proofs.RoundLoop.{none_yet, tested, one-round, all_made}
-use Rattle.special_bulirsch.specs.Bulirsch.{cel_test}
 use mathlib.Core.Bool.{not}
 use mathlib.Core.Path.{ap}
 use Rattle.special_bulirsch.proofs.repeat_turn.Goals as goal

@@ -1,5 +1,5 @@
 -- `lanes::eight::begin` meets its contract. Assumes nothing.
-use Rattle.std.proofs.Common.{◌-◌, le_of_lt, arith, length-set}
+use Rattle.std.proofs.Common.{le_of_lt, arith, length-set}
 use Rattle.doubles.proofs.Fields.{no_nan}
 use Rattle.lanes.proofs.Trying.{none-known, one_known, all_known}
 use Rattle.lanes.proofs.eight.begin.Goals as goal

@@ -1,5 +1,5 @@
 -- `lanes::eight::decide` meets its contract. Assumes nothing.
-use Rattle.std.proofs.Common.{◌-◌, arith}
+use Rattle.std.proofs.Common.{arith}
 use Rattle.lanes.proofs.Trying.{none_tried, one_tried, all_tried}
 use Rattle.lanes.proofs.eight.decide.Goals as goal
 

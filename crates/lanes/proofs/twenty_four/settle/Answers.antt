@@ -1,5 +1,5 @@
 -- `lanes::twenty_four::settle` meets its contract. Assumes nothing.
-use Rattle.std.proofs.Common.{◌-◌, arith}
+use Rattle.std.proofs.Common.{arith}
 use Rattle.lanes.proofs.Filling.{none_filled, one-filled, all-filled}
 use Rattle.lanes.proofs.Trying.{kept-filled}
 use Rattle.lanes.proofs.twenty_four.settle.Goals.{else-flags-k-ge9223372036854775808, then-flags-k-ge9223372036854775808}

@@ -1,6 +1,6 @@
 -- `mesh::scan::all_below` meets its contract: whether the corners so far are below the number of vertices. Assumes nothing.
 use mathlib.Core.Path.{sym, ◌∙◌}
-use Prim.Native.Nat.{◌-◌, ◌/◌}
+use Prim.Native.Nat.{◌/◌}
 use native.Mathlib.Omega.{arith}
 use lib.ListN.{length}
 use Rattle.refusals.specs.declared.Refusal.TheVariants.{NoSuchVertex}

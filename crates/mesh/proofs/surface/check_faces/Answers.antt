@@ -1,6 +1,5 @@
 -- `mesh::surface::check_faces` meets its contract: the faces so far have normals, and the sum so far is the fold so far. Assumes nothing.
 use mathlib.Core.Path.{sym, ap, ◌∙◌}
-use Prim.Native.Nat.{◌-◌}
 use native.Mathlib.Omega.{arith}
 use Rattle.doubles.specs.Constants.{0·0}
 use Rattle.newtonian.specs.Fold.{fold-none, fold_more}

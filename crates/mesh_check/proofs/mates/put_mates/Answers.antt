@@ -1,7 +1,7 @@
 -- `mesh_check::mates::put_mates` meets its contract: so far, the mates of the first k uses of the order list are written. Assumes nothing.
 use mathlib.Core.Path.{◌≡◌, refl, sym, subst}
 use mathlib.Core.List.{List}
-use Prim.Native.Nat.{ℕ, ◌+◌, ◌*◌, ◌-◌, ◌<◌}
+use Prim.Native.Nat.{ℕ, ◌+◌, ◌*◌, ◌<◌}
 use native.Mathlib.Omega.{arith}
 use lib.ListN.{length, get_or}
 use Rattle.mesh_check.proofs.MatesPut.{PutSoFar, full, put-more, all-mates}

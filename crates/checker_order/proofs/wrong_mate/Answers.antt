@@ -1,0 +1,36 @@
+-- `checker_order::wrong_mate` meets its contract: the mates so far are reverses. Assumes nothing.
+use mathlib.Core.Path.{◌≡◌, sym, ◌∙◌}
+use Prim.Native.Nat.{◌-◌, ◌%◌, ◌≤◌}
+use native.Mathlib.Omega.{arith}
+use lib.ListN.{length}
+use borrow.Author.Tests.{not-true, not-false}
+use Rattle.refusals.specs.declared.Refusal.TheVariants.{WrongMate}
+use Rattle.mesh.proofs.Scans.{scan_start, scan_end}
+use Rattle.sheet.specs.Checker.{is_reverse, wrong_mate}
+use Rattle.checker_order.proofs.Mates.{mates_standing, Mates, three_more, three_stop}
+use Rattle.checker_order.proofs.wrong_mate.Goals as goal
+
+pub loop-i-init : goal.loop-i-init
+loop-i-init c =
+    let a = c.args in
+    let f = a.faces.now in
+    (omega arith, omega arith, scan_start (length f) (is_reverse f (mates_standing a.sheet.now a.at f)) (λ j. WrongMate))
+
+pub returns-then-not-are_reverses : goal.returns-then-not-are_reverses
+returns-then-not-are_reverses c =
+    let a = c.args in
+    let f = a.faces.now in
+    three_stop f (mates_standing a.sheet.now a.at f) c.loop-i.i (omega arith) c.loop-i.invariant.2 (sym c.are_reverses.ensures ∙ c.if-not-are_reverses.true)
+
+pub loop-i-preserved : goal.loop-i-preserved
+loop-i-preserved c =
+    let a = c.args in
+    let f = a.faces.now in
+    (omega arith, omega arith, three_more f (mates_standing a.sheet.now a.at f) c.loop-i.i c.loop-i.invariant.2 (sym c.are_reverses.ensures ∙ c.if-not-are_reverses.false))
+
+pub returns : goal.returns
+unfolding wrong_mate
+returns c =
+    let a = c.args in
+    let f = a.faces.now in
+    scan_end (length f) (is_reverse f (mates_standing a.sheet.now a.at f)) (λ j. WrongMate) c.loop-i.i (omega arith) (omega arith) c.loop-i.invariant.2

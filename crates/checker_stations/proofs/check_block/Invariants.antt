@@ -1,0 +1,16 @@
+-- `checker_stations::check_block` meets its contract: none of the stations so far is refused. Assumes nothing.
+use mathlib.Core.Path.{◌≡◌, refl, sym, ◌∙◌, subst}
+use Prim.Native.Nat.{ℕ, ◌+◌, ◌-◌, ◌≤◌, ◌<◌}
+use native.Mathlib.Omega.{arith}
+use Rattle.refusals.specs.Causes.{first_of}
+use Rattle.refusals.specs.declared.Cause.{Cause}
+use Rattle.refusals.specs.declared.Cause.TheVariants.{None}
+use Rattle.refusals.proofs.Causes.{more, stop}
+use Rattle.sheet.specs.Checker.{stations_in, parse, check_station}
+use Rattle.checker_stations.proofs.check_block.Given as goal
+
+abbrev pub invariant-loop-j : goal.invariant-loop-j
+invariant-loop-j l = (l.j ≤ l.n) × (first_of l.j (λ i. check_station l.sheet (parse l.sheet) (l.first + i)) ≡ None)
+
+abbrev pub decreases-loop-j : goal.decreases-loop-j
+decreases-loop-j l = l.n - l.j
