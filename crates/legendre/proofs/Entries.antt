@@ -11,7 +11,7 @@ use lib.ListN.{length, get_or, set}
 use lib.Ieee.{Float, binary64, of_bits, nan_bits}
 use Rattle.legendre.specs.Table.{table}
 use Rattle.legendre.specs.GaussLegendre.{max_order, entry, padded}
-use Rattle.legendre.specs.TableIsGaussLegendre.{entries-not-nan}
+use Rattle.legendre.proofs.TableIsGaussLegendre.{entries-not-nan}
 
 pub entries : length table ≡ max_order * (max_order + 1)
 unfolding table

@@ -1,2 +1,3 @@
 -- For the proofs here: the table's entries (Entries).
 pub mod Entries
+pub mod TableIsGaussLegendre

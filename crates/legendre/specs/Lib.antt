@@ -5,4 +5,3 @@ pub mod GaussLegendre
 pub mod RuleEntries
 pub mod IsGaussLegendre
 pub mod Tests
-pub mod TableIsGaussLegendre

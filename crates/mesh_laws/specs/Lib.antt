@@ -5,6 +5,4 @@ pub mod ClosedLaws
 pub mod Smallest
 pub mod Chain
 pub mod LateCauses
-pub mod Laws
-pub mod EarlyLaws
 pub mod Tetrahedron

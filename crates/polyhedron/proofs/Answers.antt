@@ -23,7 +23,7 @@ use Rattle.mesh.specs.Surface.{Body, volume}
 use Rattle.mesh.specs.Accepted.{Counted}
 use Rattle.mesh.specs.CauseLaws.{none-count}
 use Rattle.mesh.specs.Check.{count_cause, out_of_limits, surface_cause, mesh_cause, solid_of, check_mesh, leaves_work, work_after}
-use Rattle.mesh_laws.specs.Laws.{checked, solid-volume, solid-refused, answer-refused, work-front}
+use Rattle.mesh_laws.proofs.Laws.{checked, solid-volume, solid-refused, answer-refused, work-front}
 use Rattle.mesh_check.proofs.Answers.{not-counted}
 use Rattle.mesh_check.proofs.Work.{early_number, work_early}
 use Rattle.polyhedron.specs.Polyhedron.{station_out_of_limits, given_cause, polyhedron_cause, polyhedron_at, polyhedron}

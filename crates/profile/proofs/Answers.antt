@@ -21,7 +21,7 @@ use Rattle.mesh.specs.CauseLaws.{none-malformed, none-many, none_short}
 use Rattle.mesh.specs.Check.{surface_cause, solid_of, work_after}
 use Rattle.mesh.specs.Check as mesh
 use Rattle.mesh.specs.Surface.{Body, volume}
-use Rattle.mesh_laws.specs.Laws.{checked, solid-volume, solid-refused, work-front}
+use Rattle.mesh_laws.proofs.Laws.{checked, solid-volume, solid-refused, work-front}
 use Rattle.profile_records.specs.Records.{Done}
 use Rattle.profile.specs.InputLaws.{none-input, only-input}
 use Rattle.profile.specs.FilledLaws.{fields_as_they_were, refused-input, done}

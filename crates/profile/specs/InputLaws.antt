@@ -22,7 +22,7 @@ use Rattle.mesh.specs.Check as mesh
 use Rattle.mesh.specs.Surface.{vertex_count}
 use Rattle.mesh.proofs.CauseNumbers.{Only, NumberWithin, only-unless, only_else, only-malformed, only-many, only_limits, only-vertex, only-order}
 use Rattle.mesh_laws.specs.ClosedLaws.{closed_pairs, pairs_closed}
-use Rattle.mesh_laws.specs.Laws.{checked, checks}
+use Rattle.mesh_laws.proofs.Laws.{checked, checks}
 use Rattle.mesh_laws.specs.Refused.{NumbersWithin}
 use Rattle.polyhedron.specs.Polyhedron.{polyhedron_at, polyhedron_cause, polyhedron}
 use Rattle.polyhedron.specs.Polyhedron as single

@@ -9,7 +9,7 @@ ghost use Rattle.sheet_handle.specs.RowAfterRow.{row_count, next_row_of, part_af
 use refusals::Cause;
 
 // It stands at row `at` of `sheet`.
-#[derive(Drop)]
+#[derive(Clone, Copy)]
 pub struct Rows<'a> {
     pub sheet: &'a [u8],
     pub at: usize,

@@ -28,7 +28,7 @@ use Rattle.mesh.specs.Surface.{vertex}
 use Rattle.mesh.specs.Accepted.{Counted}
 use Rattle.mesh.specs.CauseLaws.{is_body, count_none, limits_none}
 use Rattle.mesh_laws.specs.ClosedLaws.{pairs_closed}
-use Rattle.mesh_laws.specs.Laws.{checks}
+use Rattle.mesh_laws.proofs.Laws.{checks}
 use Rattle.polyhedron.specs.Polyhedron.{polyhedron_at, given_cause, polyhedron_cause, polyhedron}
 use Rattle.polyhedron.specs.StationNumber.{polyhedron_at-value}
 use Rattle.sheet_layout.specs.LittleEndian.{pack, bits, IsBytes}

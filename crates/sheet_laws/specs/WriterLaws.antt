@@ -31,7 +31,7 @@ use Rattle.mesh.specs.Check as mesh
 use Rattle.mesh.specs.Accepted.{Counted}
 use Rattle.mesh.specs.CauseLaws.{is_body, none_limits, limits_none, none-vertex, vertex-none}
 use Rattle.mesh_laws.specs.ClosedLaws.{closed_pairs, pairs_closed}
-use Rattle.mesh_laws.specs.Laws.{checked, checks}
+use Rattle.mesh_laws.proofs.Laws.{checked, checks}
 use Rattle.prism.specs.Prism.{sides_within_limits, side_within_limits}
 use Rattle.sheet_rows.specs.Kinds.{is_mesh, is_prism, known_kind, within_counts}
 use Rattle.sheet_rows.proofs.Counts.{counts_each}

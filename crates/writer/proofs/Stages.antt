@@ -25,7 +25,7 @@ use Rattle.mesh.specs.Surface.{vertex}
 use Rattle.mesh.specs.Check.{order_cause, leaves_work, work_after}
 use Rattle.mesh.specs.Check as mesh
 use Rattle.mesh.specs.Accepted.{Counted}
-use Rattle.mesh_laws.specs.Laws.{solid-volume, solid-refused}
+use Rattle.mesh_laws.proofs.Laws.{solid-volume, solid-refused}
 use Rattle.mesh.specs.declared.Solid.{Solid}
 use Rattle.mesh_check.specs.CheckedMates.{mates_after}
 use Rattle.sheet_layout.specs.LittleEndian.{pack}

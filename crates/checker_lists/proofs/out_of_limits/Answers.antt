@@ -2,7 +2,6 @@
 use mathlib.Core.Path.{◌≡◌, sym, ◌∙◌}
 use mathlib.Core.Bool.{true}
 use Prim.Native.Nat.{◌+◌}
-use borrow.Author.Tests.{not-true, not-false}
 use Rattle.refusals.specs.declared.Cause.TheVariants.{None}
 use Rattle.newtonian.specs.Vectors.{vector_within_limits}
 use Rattle.mesh.specs.Check as mesh

@@ -1,14 +1,9 @@
 -- `checker_order::all_paired` meets its contract: the mates so far are paired. Assumes nothing.
-use mathlib.Core.Path.{◌≡◌, sym}
+use mathlib.Core.Path.{◌≡◌}
 use Prim.Native.Nat.{ℕ, ◌-◌, ◌%◌, ◌≤◌, ◌<◌}
-use native.Mathlib.Omega.{arith}
 use lib.ListN.{length}
-use borrow.Author.Count.{below_none}
-use borrow.Author.Tests.{not-false}
-use Rattle.lists.proofs.Numbers.{true≢false}
 use Rattle.checker_order.specs.Paired.{PairedAt}
 use Rattle.checker_order.proofs.Mates.{mates_standing}
-use Rattle.checker_order.proofs.Pairs.{face-more}
 use Rattle.checker_order.proofs.all_paired.Given as goal
 
 abbrev pub invariant-loop-i : goal.invariant-loop-i

@@ -4,7 +4,6 @@ use mathlib.Core.Bool.{true}
 use Prim.Native.Nat.{◌+◌, ◌%◌, ◌<◌}
 use native.Mathlib.Omega.{arith}
 use lib.ListN.{length}
-use borrow.Author.Tests.{not-true, not-false}
 use Rattle.sheet.specs.Checker.{is_reverse}
 use Rattle.checker_order.proofs.Mates.{mates_standing, first, second, third, not_first, not-second, up_to-third}
 use Rattle.checker_order.proofs.are_reverses.Goals as goal

@@ -1,7 +1,6 @@
 -- `checker_order::is_paired` meets its contract. Assumes nothing.
 use mathlib.Core.Path.{sym}
 use native.Mathlib.Omega.{arith}
-use borrow.Author.Tests.{not-false}
 use Rattle.lists.proofs.Numbers.{true≢false}
 use Rattle.checker_order.proofs.Pairs.{paired_face}
 use Rattle.checker_order.proofs.is_paired.Goals as goal

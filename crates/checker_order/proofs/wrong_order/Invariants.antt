@@ -1,15 +1,12 @@
 -- `checker_order::wrong_order` meets its contract: the entries so far are edge uses whose edges ascend. Assumes nothing.
-use mathlib.Core.Path.{◌≡◌, refl, sym, ◌∙◌}
-use Prim.Native.Nat.{◌-◌, ◌≤◌, ◌<◌}
-use native.Mathlib.Omega.{arith}
+use mathlib.Core.Path.{◌≡◌}
+use Prim.Native.Nat.{◌-◌, ◌≤◌}
 use lib.ListN.{length}
-use borrow.Author.Tests.{not-true, not-false}
 use Rattle.refusals.specs.declared.Refusal.TheVariants.{WrongOrder}
 use Rattle.refusals.specs.declared.Cause.TheVariants.{None}
 use Rattle.refusals.specs.Causes.{unless, first_of}
-use Rattle.mesh.proofs.Scans.{scan_start, scan_more, scan_stop, scan_end}
-use Rattle.sheet.specs.Checker.{wrong_order, ascends}
-use Rattle.checker_order.proofs.Compare.{Last, no_use, a_use, above, next_last}
+use Rattle.sheet.specs.Checker.{ascends}
+use Rattle.checker_order.proofs.Compare.{Last}
 use Rattle.checker_order.proofs.wrong_order.Given as goal
 
 abbrev pub invariant-loop-i : goal.invariant-loop-i

@@ -1,9 +1,8 @@
 -- `checker_scans::same_numbers` meets its contract: the numbers so far have the bits of those given. Assumes nothing.
 use mathlib.Core.Path.{sym, ◌∙◌}
-use Prim.Native.Nat.{ℕ, ◌-◌, ◌≤◌, ◌<◌}
+use Prim.Native.Nat.{ℕ, ◌-◌, ◌<◌}
 use native.Mathlib.Omega.{arith}
-use lib.ListN.{length}
-use Rattle.checker_scans.proofs.Compare.{Same, same, other}
+use Rattle.checker_scans.proofs.Compare.{same, other}
 use borrow.Author.Count.{below_more}
 use Rattle.checker_scans.proofs.same_numbers.Goals as goal
 

@@ -1,6 +1,6 @@
 -- `checker_stations::check_block` meets its contract: none of the stations so far is refused. Assumes nothing.
 use mathlib.Core.Path.{◌≡◌, refl, sym, ◌∙◌, subst}
-use Prim.Native.Nat.{ℕ, ◌+◌, ◌-◌, ◌≤◌, ◌<◌}
+use Prim.Native.Nat.{ℕ, ◌+◌, ◌-◌, ◌<◌}
 use native.Mathlib.Omega.{arith}
 use Rattle.refusals.specs.Causes.{first_of}
 use Rattle.refusals.specs.declared.Cause.{Cause}

@@ -1,12 +1,9 @@
 -- `checker_stations::check_block` meets its contract: none of the stations so far is refused. Assumes nothing.
-use mathlib.Core.Path.{◌≡◌, refl, sym, ◌∙◌, subst}
-use Prim.Native.Nat.{ℕ, ◌+◌, ◌-◌, ◌≤◌, ◌<◌}
-use native.Mathlib.Omega.{arith}
+use mathlib.Core.Path.{◌≡◌}
+use Prim.Native.Nat.{◌+◌, ◌-◌, ◌≤◌}
 use Rattle.refusals.specs.Causes.{first_of}
-use Rattle.refusals.specs.declared.Cause.{Cause}
 use Rattle.refusals.specs.declared.Cause.TheVariants.{None}
-use Rattle.refusals.proofs.Causes.{more, stop}
-use Rattle.sheet.specs.Checker.{stations_in, parse, check_station}
+use Rattle.sheet.specs.Checker.{parse, check_station}
 use Rattle.checker_stations.proofs.check_block.Given as goal
 
 abbrev pub invariant-loop-j : goal.invariant-loop-j

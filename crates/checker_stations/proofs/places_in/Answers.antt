@@ -3,11 +3,10 @@ use mathlib.Core.Path.{refl, ap, ◌∙◌}
 use Prim.Native.Nat.{ℕ, ◌+◌, ◌*◌, ◌-◌, ◌≤◌, ◌<◌}
 use native.Mathlib.Omega.{arith}
 use lib.ListN.{length}
-use Rattle.mesh.specs.Surface.{vertex}
-use Rattle.polyhedron_blocks.proofs.Elements.{Filled, filled_more, filled_none}
+use Rattle.polyhedron_blocks.proofs.Elements.{filled_more, filled_none}
 use Rattle.polyhedron_blocks.specs.Blocks.{block_size, no_vector}
 use Rattle.mesh_orders.specs.Edges.{max_stations}
-use Rattle.sheet.specs.Checker.{parse, stations_in, vector_in}
+use Rattle.sheet.specs.Checker.{stations_in, vector_in}
 use Rattle.checker_stations.proofs.Station.{place_is}
 use Rattle.checker_stations.proofs.places_in.Goals as goal
 

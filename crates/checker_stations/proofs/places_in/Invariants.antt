@@ -1,14 +1,9 @@
 -- `checker_stations::places_in` meets its contract. Assumes nothing.
-use mathlib.Core.Path.{refl, ap, ◌∙◌}
-use Prim.Native.Nat.{ℕ, ◌+◌, ◌*◌, ◌-◌, ◌≤◌, ◌<◌}
-use native.Mathlib.Omega.{arith}
-use lib.ListN.{length}
+use Prim.Native.Nat.{◌+◌, ◌-◌, ◌≤◌}
 use Rattle.mesh.specs.Surface.{vertex}
-use Rattle.polyhedron_blocks.proofs.Elements.{Filled, filled_more, filled_none}
+use Rattle.polyhedron_blocks.proofs.Elements.{Filled}
 use Rattle.polyhedron_blocks.specs.Blocks.{block_size, no_vector}
-use Rattle.mesh_orders.specs.Edges.{max_stations}
-use Rattle.sheet.specs.Checker.{parse, stations_in, vector_in}
-use Rattle.checker_stations.proofs.Station.{place_is}
+use Rattle.sheet.specs.Checker.{parse}
 use Rattle.checker_stations.proofs.places_in.Given as goal
 
 abbrev pub invariant-loop-j : goal.invariant-loop-j

@@ -1,5 +1,4 @@
 -- `checker_stations::stations_outcome` meets its contract. Assumes nothing.
-use mathlib.Core.Path.{◌≡◌}
 use Rattle.checker_lists.specs.Stages.{Ready}
 use Rattle.checker_lists.proofs.Lists.{now_ready, in_order}
 use Rattle.checker_stations.proofs.stations_outcome.Goals as goal

@@ -39,16 +39,19 @@ loop-i-preserved c =
     let l = c.loop-i in
     let q = placed f c.args.order.now c.requires.1 l.i (omega arith) in
     let x : c.start-x.result ≡ met f l.i = c.start-x.ensures ∙ q.2 in
-    elim c.if-next-x.branch [ then-next-x w ↦     let e : c.if-next-x.m ≡ step (met f l.i) l.m = w.m-is ∙ w.farther-m.ensures ∙ ap (λ (y : ℕ). step y l.m) x in
-    let n : c.if-next-x.next ≡ met f l.i + 1 = w.next-is ∙ ap (λ (y : ℕ). y + 1) x in (
-      omega arith,
-      rw (e, n) (taken f ok step 0·0 l.i l.next l.m l.invariant.1 q.0 (omega (arith, x, w.if-next-x.true))),
-      omega (arith, n, met-below f (vertex_count v) c.requires.0.inside l.i q.0),
-    ) | else-next-x w ↦ (
-      omega arith,
-      rw (w.m-is, w.next-is) (skipped f ok step 0·0 l.i l.next l.m l.invariant.1 (omega (arith, x, w.if-next-x.false))),
-      omega (arith, w.next-is, l.invariant.2),
-    ) ]
+    elim c.if-next-x.branch [
+      | then-next-x w ↦ let e : c.if-next-x.m ≡ step (met f l.i) l.m = w.m-is ∙ w.farther-m.ensures ∙ ap (λ (y : ℕ). step y l.m) x in
+          let n : c.if-next-x.next ≡ met f l.i + 1 = w.next-is ∙ ap (λ (y : ℕ). y + 1) x in (
+            omega arith,
+            rw (e, n) (taken f ok step 0·0 l.i l.next l.m l.invariant.1 q.0 (omega (arith, x, w.if-next-x.true))),
+            omega (arith, n, met-below f (vertex_count v) c.requires.0.inside l.i q.0),
+          )
+      | else-next-x w ↦ (
+        omega arith,
+        rw (w.m-is, w.next-is) (skipped f ok step 0·0 l.i l.next l.m l.invariant.1 (omega (arith, x, w.if-next-x.false))),
+        omega (arith, w.next-is, l.invariant.2),
+      )
+    ]
 
 pub returns : goal.returns
 returns c =

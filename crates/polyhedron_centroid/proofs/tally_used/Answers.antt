@@ -44,18 +44,21 @@ loop-i-preserved c =
     let l = c.loop-i in
     let q = placed f c.args.order.now c.requires.1 l.i (omega arith) in
     let x : c.start-x.result ≡ met f l.i = c.start-x.ensures ∙ q.2 in
-    elim c.if-next-x.branch [ then-next-x w ↦     let e : c.if-next-x.t ≡ add_vertex v (met f l.i) l.t = w.t-is ∙ w.add_vertex-t.ensures ∙ ap (λ (y : ℕ). add_vertex v y l.t) x in
-    let n : c.if-next-x.next ≡ met f l.i + 1 = w.next-is ∙ ap (λ (y : ℕ). y + 1) x in (
-      omega arith,
-      rw (e, n) (taken f ok (add_vertex v) no_tally l.i l.next l.t l.invariant.1 q.0 (omega (arith, x, w.if-next-x.true))),
-      omega (arith, n, met-below f (vertex_count v) c.requires.0.inside l.i q.0),
-      omega (arith, ap (λ (t : Tally). t.count) e, l.invariant.3),
-    ) | else-next-x w ↦ (
-      omega arith,
-      rw (w.t-is, w.next-is) (skipped f ok (add_vertex v) no_tally l.i l.next l.t l.invariant.1 (omega (arith, x, w.if-next-x.false))),
-      omega (arith, w.next-is, l.invariant.2),
-      omega (arith, ap (λ (t : Tally). t.count) w.t-is, l.invariant.3),
-    ) ]
+    elim c.if-next-x.branch [
+      | then-next-x w ↦ let e : c.if-next-x.t ≡ add_vertex v (met f l.i) l.t = w.t-is ∙ w.add_vertex-t.ensures ∙ ap (λ (y : ℕ). add_vertex v y l.t) x in
+          let n : c.if-next-x.next ≡ met f l.i + 1 = w.next-is ∙ ap (λ (y : ℕ). y + 1) x in (
+            omega arith,
+            rw (e, n) (taken f ok (add_vertex v) no_tally l.i l.next l.t l.invariant.1 q.0 (omega (arith, x, w.if-next-x.true))),
+            omega (arith, n, met-below f (vertex_count v) c.requires.0.inside l.i q.0),
+            omega (arith, ap (λ (t : Tally). t.count) e, l.invariant.3),
+          )
+      | else-next-x w ↦ (
+        omega arith,
+        rw (w.t-is, w.next-is) (skipped f ok (add_vertex v) no_tally l.i l.next l.t l.invariant.1 (omega (arith, x, w.if-next-x.false))),
+        omega (arith, w.next-is, l.invariant.2),
+        omega (arith, ap (λ (t : Tally). t.count) w.t-is, l.invariant.3),
+      )
+    ]
 
 pub returns : goal.returns
 unfolding tally_used

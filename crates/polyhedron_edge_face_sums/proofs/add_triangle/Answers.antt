@@ -8,7 +8,9 @@ use Rattle.polyhedron_edge_face_sums.proofs.add_triangle.Goals as goal
 pub returns : goal.returns
 unfolding add_triangle
 returns c =
-    let a = c.args in record { sized = c.add_side.ensures.sized; carries = λ s h.
+    let a = c.args in record {
+      sized = c.add_side.ensures.sized;
+      carries = λ s h.
           let f = c.add_face_terms in
           let h₀ :
           Carries
@@ -17,4 +19,5 @@ returns c =
           = record { field = simp (f.ensures, h.field); edges = h.edges } in
           simp (← c.seen-a.ensures, ← c.seen-b.ensures, ← c.seen-c.ensures, ← c.dot-rho.ensures, ← c.solid_angle-omega.ensures)
           (c.add_side.ensures.carries _ _ _ c.logarithm-l2.ensures refl (c.add_side-r2.ensures.carries _ _ _ c.logarithm-l1.ensures refl
-          (c.add_side-r1.ensures.carries _ _ _ c.logarithm-l0.ensures refl h₀))) }
+          (c.add_side-r1.ensures.carries _ _ _ c.logarithm-l0.ensures refl h₀)));
+    }

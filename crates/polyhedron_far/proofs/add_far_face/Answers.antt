@@ -8,6 +8,9 @@ add_points-requires c = c.requires.body.2
 pub returns : goal.returns
 returns c =
     let a = c.args in
-    record { room_2 = c.points.ensures.room; far_sums = face_added a.places a.apex a.verts.now a.faces.now a.k
+    record {
+      room_2 = c.points.ensures.room;
+      far_sums = face_added a.places a.apex a.verts.now a.faces.now a.k
           c.corner-b.ensures c.corner-c.ensures c.corner-d.ensures c.over_face-s.ensures
-          c.points.ensures c.add_points.ensures }
+          c.points.ensures c.add_points.ensures;
+    }

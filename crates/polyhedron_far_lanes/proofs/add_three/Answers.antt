@@ -29,6 +29,9 @@ bounds-w-n-3 c = omega (arith, c.requires.0)
 
 pub returns : goal.returns
 returns c =
-    let a = c.args in record { q_len = (c.squares-3.ensures.q_len.0, c.roots_24.ensures.size); fields = three_added a.px.now a.py.now a.pz.now a.x.now a.y.now a.z.now a.w.now a.f.now a.n
+    let a = c.args in record {
+      q_len = (c.squares-3.ensures.q_len.0, c.roots_24.ensures.size);
+      fields = three_added a.px.now a.py.now a.pz.now a.x.now a.y.now a.z.now a.w.now a.f.now a.n
           c.point_in-a.ensures c.point_in-b.ensures c.point_in-c.ensures
-          c.add_point.ensures c.add_point-2.ensures c.add_point-3.ensures }
+          c.add_point.ensures c.add_point-2.ensures c.add_point-3.ensures;
+    }

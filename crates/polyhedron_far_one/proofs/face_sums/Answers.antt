@@ -7,12 +7,10 @@ use Rattle.mesh.specs.Surface.{face_count}
 use Rattle.polyhedron_far_one.proofs.face_sums.Goals as goal
 
 pub loop-k-init : goal.loop-k-init
-loop-k-init c =
-    (
+loop-k-init c = (
   omega arith,
   record { of_x = c.room-x.ensures; of_y = c.room-y.ensures; of_z = c.room-z.ensures; of_w = c.room-w.ensures },
   rw fold-none c.no_sums-sums.ensures,
-
 )
 
 pub add_tetrahedron-next-requires : goal.add_tetrahedron-next-requires

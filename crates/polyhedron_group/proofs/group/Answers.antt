@@ -25,6 +25,9 @@ returns-then-n-lt-FEWEST c = record { describes = λ l. absurd (omega (arith, l,
 pub returns : goal.returns
 returns c =
     let a = c.args in
-    let g = raw_normal c.corners.new.cx c.corners.new.cy c.corners.new.cz in record { describes = λ e. describes a.verts.now a.faces.now a.first c.corners.ensures
+    let g = raw_normal c.corners.new.cx c.corners.new.cy c.corners.new.cz in record {
+      describes = λ e. describes a.verts.now a.faces.now a.first c.corners.ensures
           (units g c.raw_normals.ensures.lanes c.roots_8.ensures c.raw_normals.ensures.vectors c.units_8.ensures)
-          c.sides.ensures.vectors c.sides.ensures.lanes; dyads = λ e. record { of_side = c.side_dyads.ensures; of_face = c.face_dyads.ensures } }
+          c.sides.ensures.vectors c.sides.ensures.lanes;
+      dyads = λ e. record { of_side = c.side_dyads.ensures; of_face = c.face_dyads.ensures };
+    }

@@ -8,8 +8,7 @@ use Rattle.polyhedron_on_edge.proofs.add_infinite.Goals as goal
 
 pub loop-i-preserved : goal.loop-i-preserved
 loop-i-preserved c =
-    let l = c.loop-i in
-    (
+    let l = c.loop-i in (
       search rules,
       λ es keys h.
           simp (c.infinite_entries-sums.ensures, c.dyad_at.ensures) (infinite_more es keys c.args.dyads.now c.args.count h c.requires l.i (omega arith) l.sums)

@@ -8,18 +8,17 @@ pub returns : goal.returns
 unfolding mapped_rule
 returns c =
     simp (
-  c.gauss_legendre-rule.ensures.value,
-  map-node 0 (lit≤ tt),
-  map-node 1 (lit≤ tt),
-  map-node 2 (lit≤ tt),
-  map-node 3 (lit≤ tt),
-  map-node 4 (lit≤ tt),
-  map-node 5 (lit≤ tt),
-  map-weight 0 (lit≤ tt),
-  map-weight 1 (lit≤ tt),
-  map-weight 2 (lit≤ tt),
-  map-weight 3 (lit≤ tt),
-  map-weight 4 (lit≤ tt),
-  map-weight 5 (lit≤ tt),
-
-)
+      c.gauss_legendre-rule.ensures.value,
+      map-node 0 (lit≤ tt),
+      map-node 1 (lit≤ tt),
+      map-node 2 (lit≤ tt),
+      map-node 3 (lit≤ tt),
+      map-node 4 (lit≤ tt),
+      map-node 5 (lit≤ tt),
+      map-weight 0 (lit≤ tt),
+      map-weight 1 (lit≤ tt),
+      map-weight 2 (lit≤ tt),
+      map-weight 3 (lit≤ tt),
+      map-weight 4 (lit≤ tt),
+      map-weight 5 (lit≤ tt),
+    )

@@ -6,12 +6,11 @@ pub returns : goal.returns
 unfolding over_face
 returns c =
     simp (
-  c.dot-vol6.ensures,
-  c.cross.ensures,
-  c.difference-2.ensures,
-  c.difference.ensures,
-  c.difference-cd.ensures,
-  c.difference-bc.ensures,
-  c.difference-ab.ensures,
-
-)
+      c.dot-vol6.ensures,
+      c.cross.ensures,
+      c.difference-2.ensures,
+      c.difference.ensures,
+      c.difference-cd.ensures,
+      c.difference-bc.ensures,
+      c.difference-ab.ensures,
+    )

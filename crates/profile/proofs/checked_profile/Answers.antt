@@ -1,5 +1,4 @@
 -- `profile::checked_profile` meets its contract: with the centroid and the radius the field is that of the checked mesh. Assumes nothing.
-use mathlib.Core.Path.{◌≡◌, ap}
 use Rattle.polyhedron.specs.Polyhedron.{polyhedron_at}
 use Rattle.profile.proofs.checked_profile.Goals as goal
 

@@ -2,7 +2,6 @@
 use mathlib.Core.Path.{◌≡◌, sym, ap, ◌∙◌}
 use Rattle.refusals.specs.Causes.{or_else}
 use Rattle.refusals.specs.declared.Cause.{Cause}
-use Rattle.refusals.specs.declared.Cause.TheVariants.{None}
 use Rattle.mesh.specs.Check as mesh
 use Rattle.profile.specs.Profile.{malformed, too_many, too_short, out_of_limits, given_cause}
 use Rattle.profile.proofs.Answers.{three-refuse, three-pass}

@@ -48,4 +48,4 @@ returns c =
     let k = c.check_surface-surface in
     success st.verts.now st.faces.now st.stations.now st.work.now st.fields.now (sym c.given_cause-given.ensures ∙ c.in_default.is)
     k.new.work k.ensures.work_after c.in_default-surface.field-0 (sym k.ensures.value ∙ c.in_default-surface.is) in
-     let whole = accepted.answered _ _ c.checked_profile.ensures in record { value = whole.0; work = whole.1.0; fields = whole.1.1 }
+    let whole = accepted.answered _ _ c.checked_profile.ensures in record { value = whole.0; work = whole.1.0; fields = whole.1.1 }

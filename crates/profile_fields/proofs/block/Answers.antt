@@ -11,9 +11,12 @@ returns c =
     let stored = c.store in
     let answers = c.fields_of-answers in
     let places = c.places_of-places in
-    let a = c.args in record { fields_len_unchanged = stored.ensures.fields_len_unchanged; by_index = λ b o q h.
+    let a = c.args in record {
+      fields_len_unchanged = stored.ensures.fields_len_unchanged;
+      by_index = λ b o q h.
           stored.ensures.by_index b o
           (λ j m.
           q (a.first + j) (omega arith) ∙ ap (λ (p : Vector). polyhedron_from (a.first + j) p a.c a.r a.verts.now a.faces.now) (sym (places.ensures j m))
           ∙ sym (answers.ensures.at j m))
-          h }
+          h;
+    }

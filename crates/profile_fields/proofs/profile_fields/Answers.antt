@@ -7,7 +7,7 @@ use Rattle.refusals.specs.declared.Cause.{Cause}
 use Rattle.mesh.specs.Surface.{vertex}
 use Rattle.polyhedron.specs.Polyhedron.{polyhedron_from}
 use Rattle.profile_records.proofs.Storing.{none_written, ended}
-use Rattle.profile_records.specs.Records.{Done, Stored, Written}
+use Rattle.profile_records.specs.Records.{Done, Stored}
 use Rattle.profile_fields.proofs.profile_fields.Goals as goal
 
 pub loop-first-init : goal.loop-first-init
@@ -36,8 +36,7 @@ loop-first-smaller c = omega (arith, c.fewer-n.ensures, c.loop-first-test.true)
 pub loop-first-preserved : goal.loop-first-preserved
 loop-first-preserved c =
     let size : ℕ = c.fewer-n.result in
-    let stored : (let a = c.args in Stored (λ i. polyhedron_from i (vertex a.stations.now i) a.c a.r a.verts.now a.faces.now) (c.loop-first.first + size) a.fields.now c.block-cause.result c.block-cause.new.fields) = c.block-cause.ensures.by_index _ _ (λ i l. refl) c.loop-first.invariant.3 in
-    (
+    let stored : (let a = c.args in Stored (λ i. polyhedron_from i (vertex a.stations.now i) a.c a.r a.verts.now a.faces.now) (c.loop-first.first + size) a.fields.now c.block-cause.result c.block-cause.new.fields) = c.block-cause.ensures.by_index _ _ (λ i l. refl) c.loop-first.invariant.3 in (
       omega (arith, c.fewer-n.ensures, c.loop-first-test.true),
       refl,
       c.block-cause.ensures.fields_len_unchanged ∙ c.loop-first.invariant.2,

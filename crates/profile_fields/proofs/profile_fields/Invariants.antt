@@ -1,13 +1,10 @@
 -- `profile_fields::profile_fields` meets its contract: the records of all stations of the blocks so far are written. Assumes nothing.
-use mathlib.Core.Path.{◌≡◌, refl, ◌∙◌, subst}
-use Prim.Native.Nat.{ℕ, ◌+◌, ◌-◌, ◌/◌, ◌≤◌}
-use native.Mathlib.Omega.{arith}
+use mathlib.Core.Path.{◌≡◌}
+use Prim.Native.Nat.{◌-◌, ◌/◌, ◌≤◌}
 use lib.ListN.{length}
-use Rattle.refusals.specs.declared.Cause.{Cause}
 use Rattle.mesh.specs.Surface.{vertex}
 use Rattle.polyhedron.specs.Polyhedron.{polyhedron_from}
-use Rattle.profile_records.proofs.Storing.{none_written, ended}
-use Rattle.profile_records.specs.Records.{Done, Stored, Written}
+use Rattle.profile_records.specs.Records.{Written}
 use Rattle.profile_fields.proofs.profile_fields.Given as goal
 
 abbrev pub invariant-loop-first : goal.invariant-loop-first

@@ -1,12 +1,12 @@
 -- `profile_records::copy` meets its contract. Assumes nothing.
 use mathlib.Core.Path.{◌≡◌, refl, ◌∙◌}
-use Prim.Native.Nat.{◌-◌, ◌≤◌}
+use Prim.Native.Nat.{◌-◌}
 use native.Mathlib.Omega.{arith}
 use lib.Ieee.{nan}
-use lib.ListN.{get_or, length}
+use lib.ListN.{length}
 use lib.Seq.{ext_get_or}
 use Rattle.newtonian.specs.Vectors.{field_size}
-use Rattle.polyhedron_blocks.proofs.Elements.{Filled, filled_more, filled_none}
+use Rattle.polyhedron_blocks.proofs.Elements.{filled_more, filled_none}
 use Rattle.profile_records.proofs.copy.Goals as goal
 
 pub loop-q-init : goal.loop-q-init

@@ -1,12 +1,9 @@
 -- `profile_records::copy` meets its contract. Assumes nothing.
-use mathlib.Core.Path.{◌≡◌, refl, ◌∙◌}
 use Prim.Native.Nat.{◌-◌, ◌≤◌}
-use native.Mathlib.Omega.{arith}
 use lib.Ieee.{nan}
-use lib.ListN.{get_or, length}
-use lib.Seq.{ext_get_or}
+use lib.ListN.{get_or}
 use Rattle.newtonian.specs.Vectors.{field_size}
-use Rattle.polyhedron_blocks.proofs.Elements.{Filled, filled_more, filled_none}
+use Rattle.polyhedron_blocks.proofs.Elements.{Filled}
 use Rattle.profile_records.proofs.copy.Given as goal
 
 abbrev pub invariant-loop-q : goal.invariant-loop-q

@@ -1,7 +1,7 @@
 -- `profile_records::store` meets its contract: before turn j the records of j stations are written. Assumes nothing.
 use mathlib.Core.List.{List}
 use mathlib.Core.Path.{◌≡◌, refl, sym, ap, ◌∙◌}
-use Prim.Native.Nat.{ℕ, ◌+◌, ◌-◌, ◌≤◌, ◌<◌}
+use Prim.Native.Nat.{ℕ, ◌+◌, ◌-◌, ◌<◌}
 use native.Mathlib.Omega.{arith}
 use lib.Ieee.{Float}
 use lib.ListN.{get_or, length}
@@ -11,7 +11,7 @@ use Rattle.newtonian.specs.declared.Field.{Field}
 use Rattle.newtonian.specs.declared.Newtonian.{Newtonian}
 use Rattle.polyhedron_fields.specs.BlockFields.{no_field}
 use Rattle.profile_records.proofs.Storing.{Told, refused-on}
-use Rattle.profile_records.specs.Records.{Stored, Written}
+use Rattle.profile_records.specs.Records.{Stored}
 use Rattle.refusals.specs.Answer.{Answer}
 use Rattle.profile_records.proofs.store.Goals as goal
 
@@ -34,9 +34,12 @@ returns-in-Refused c =
     let z : j < length answers = omega (arith, l, c.requires.0) in
     c.store_record-cause.ensures.by_index a o (t.answered j l ∙ ap answer_of (within answers j no_field _ z)) (c.loop-j.invariant.2 a o t) in
     let s = c.args in
-    record { fields_len_unchanged = c.store_record-cause.ensures.fields_len_unchanged ∙ c.loop-j.invariant.1; by_index = λ a o e h.
+    record {
+      fields_len_unchanged = c.store_record-cause.ensures.fields_len_unchanged ∙ c.loop-j.invariant.1;
+      by_index = λ a o e h.
           refused-on a (s.first + c.loop-j.j + 1) (s.first + s.n) o c.store_record-cause.new.fields c.store_record-cause.result c.in-Refused.r
-          (stored a o (record { answered = e; before_block = h })) c.in-Refused.is (omega (arith, c.loop-j-test.true)) }
+          (stored a o (record { answered = e; before_block = h })) c.in-Refused.is (omega (arith, c.loop-j-test.true));
+    }
 
 pub loop-j-preserved : goal.loop-j-preserved
 loop-j-preserved c =

@@ -1,6 +1,5 @@
 -- `sheet_readers::opening_cause` meets its contract. Assumes nothing.
 use mathlib.Core.Path.{sym, ◌∙◌}
-use borrow.Author.Tests.{not-true, not-false}
 use Rattle.sheet_laws.specs.Reading.{none-length}
 use Rattle.sheet_readers.proofs.Opening.{refused-length, unknown, too_many, opens}
 use Rattle.sheet_readers.proofs.opening_cause.Goals as goal

@@ -1,13 +1,13 @@
 -- `sheet_rows::prism_fields` meets its contract: before turn j the fields of j stations are in their places. Assumes nothing.
 use mathlib.Core.Path.{◌≡◌, ◌∙◌}
-use Prim.Native.Nat.{ℕ, ◌+◌, ◌-◌, ◌≤◌, ◌<◌}
+use Prim.Native.Nat.{ℕ, ◌+◌, ◌-◌}
 use native.Mathlib.Omega.{arith}
-use lib.ListN.{get_or, length, length-set}
+use lib.ListN.{get_or, length-set}
 use Rattle.newtonian.specs.Field.{answer_of}
 use Rattle.newtonian.specs.declared.Field.{Field}
 use Rattle.mesh.specs.Surface.{vertex}
 use Rattle.prism.specs.Prism.{prism_at}
-use Rattle.polyhedron_blocks.specs.Blocks.{block_size, no_vector}
+use Rattle.polyhedron_blocks.specs.Blocks.{no_vector}
 use Rattle.polyhedron_fields.specs.BlockFields.{no_field}
 use Rattle.polyhedron_fields.proofs.Placing.{one_placed}
 use Rattle.sheet_rows.specs.Kinds.{axis_rule}

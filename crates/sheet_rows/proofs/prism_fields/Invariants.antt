@@ -1,15 +1,12 @@
 -- `sheet_rows::prism_fields` meets its contract: before turn j the fields of j stations are in their places. Assumes nothing.
-use mathlib.Core.Path.{◌≡◌, ◌∙◌}
+use mathlib.Core.Path.{◌≡◌}
 use Prim.Native.Nat.{ℕ, ◌+◌, ◌-◌, ◌≤◌, ◌<◌}
-use native.Mathlib.Omega.{arith}
-use lib.ListN.{get_or, length, length-set}
+use lib.ListN.{get_or, length}
 use Rattle.newtonian.specs.Field.{answer_of}
-use Rattle.newtonian.specs.declared.Field.{Field}
 use Rattle.mesh.specs.Surface.{vertex}
 use Rattle.prism.specs.Prism.{prism_at}
 use Rattle.polyhedron_blocks.specs.Blocks.{block_size, no_vector}
 use Rattle.polyhedron_fields.specs.BlockFields.{no_field}
-use Rattle.polyhedron_fields.proofs.Placing.{one_placed}
 use Rattle.sheet_rows.specs.Kinds.{axis_rule}
 use Rattle.sheet_rows.proofs.prism_fields.Given as goal
 

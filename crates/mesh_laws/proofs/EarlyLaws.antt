@@ -26,7 +26,7 @@ use Rattle.mesh.specs.CauseLaws.{none-malformed, malformed-none, none-many, many
 use Rattle.mesh.proofs.CauseNumbers.{Only, NumberWithin, only_else, skip, decided, only-malformed, only-many, only_short, only_limits, only-vertex, only-order}
 use Rattle.mesh_laws.specs.Refused.{NotTriples, Triples, OverLimit, CountsWithin, NumberOutside, NumbersWithin, FirstNoVertex}
 use Rattle.mesh_laws.specs.Smallest.{first_fail}
-use Rattle.mesh_laws.specs.Laws.{answer-refused}
+use Rattle.mesh_laws.proofs.Laws.{answer-refused}
 
 -- ---- tests that fail
 

@@ -1,2 +1,0 @@
--- What the proofs of this crate share.
-mod Apart
