@@ -3,5 +3,5 @@
 set -e
 (cd "crates/$1" && rt run < /dev/null > /dev/null) 2>&1 | grep -E '^logic=' || true
 mkdir -p target/bin
-cp "crates/$1/out/bin/$1" "target/bin/$1"
+cp "crates/$1/out/$1" "target/bin/$1"
 echo "target/bin/$1"
