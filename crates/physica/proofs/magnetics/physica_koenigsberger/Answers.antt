@@ -1,0 +1,5 @@
+-- `physica::magnetics::physica_koenigsberger` meets its contract. Assumes nothing.
+use Rattle.physica.proofs.magnetics.physica_koenigsberger.Goals as goal
+
+pub returns : goal.returns
+returns c = rw (← c.vector_of.ensures, ← c.vector_of-2.ensures, ← c.koenigsberger.ensures) c.give_number.ensures

@@ -1,0 +1,5 @@
+-- `physica::magnetics::physica_total_field` meets its contract. Assumes nothing.
+use Rattle.physica.proofs.magnetics.physica_total_field.Goals as goal
+
+pub returns : goal.returns
+returns c = rw (← c.vector_of.ensures, ← c.vector_of-2.ensures, ← c.total_field.ensures) c.give_number.ensures
