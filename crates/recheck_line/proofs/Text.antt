@@ -117,7 +117,7 @@ module _ (l word : List ℕ) (x y p q : ℕ) (ep : p ≡ length (decimal x)) (eq
       → v ≡ sets u (digits-end + 1) (decimal y) → w ≡ sets v line-end (10 ∷ []) → LineAtStart (line-end + 1) w l (line_of word x y)
   line-put a b c d e = record { count = sym line-length; bytes = line-bytes a b c d e }
 
--- ---- no line is longer than `lineRoom`
+-- ---- no line is longer than `line_room`
 
 decimal-most : (n : ℕ) → length (decimal n) ≤ 20
 unfolding decimal
@@ -152,7 +152,7 @@ long_line n b h room =
     let long : max_input < length (take n b) = simp length-take (omega arith) in
     rw (lt-leb (length (take n b)) max_input long)
 
-pub short_line : (n : ℕ) (b : List ℕ) → n ≤ max_input → recheck_line (take n b) ≡ answer_line (checkSheet (take n b))
+pub short_line : (n : ℕ) (b : List ℕ) → n ≤ max_input → recheck_line (take n b) ≡ answer_line (check_sheet (take n b))
 unfolding recheck_line
 short_line n b h =
     let short : length (take n b) ≤ max_input = simp length-take (omega arith) in
