@@ -3,7 +3,6 @@ use Rattle.std.specs.Prelude.{List, ℕ, Float, replicate}
 use Rattle.doubles.specs.Constants.{0·0}
 use Rattle.newtonian.specs.Vectors.{diagonal}
 use Rattle.newtonian.specs.declared.Vector.{Vector}
-use Rattle.newtonian.specs.declared.Hessian.{Hessian}
 use Rattle.polyhedron_edge_face_sums.specs.declared.Triangle.{Triangle}
 use Rattle.polyhedron_faces.specs.declared.Vectors.{Vectors}
 use Rattle.polyhedron_faces.specs.declared.Group.{Group}

@@ -144,7 +144,7 @@ pub fn sides(corners: &Vectors<24>, normals: &Vectors<8>, m: &mut Vectors<24>, e
     let mut d = [0.0; 24];
     let mut l = [0.0; 24];
     raw_sides(corners, normals, m, &mut q, &mut d);
-    lanes::roots_24(&q, &mut l);
-    lanes::roots_24(&d, e);
+    lanes::roots(&q, &mut l);
+    lanes::roots(&d, e);
     units(&l, m);
 }
