@@ -10,6 +10,7 @@ use Rattle.newtonian.specs.declared.Vector.{Vector}
 use Rattle.lanes.specs.Lanes.{Lanes}
 use Rattle.lanes.proofs.Filling.{Filled, one-filled}
 use Rattle.polyhedron_faces.specs.Parts.{FirstLanes}
+use Rattle.polyhedron_faces.specs.Held.{HasLanes}
 use Rattle.polyhedron_faces.specs.declared.Vectors.{Vectors}
 use Rattle.polyhedron_faces.proofs.FillingVectors.{FilledVectors, one-vector, set_vector}
 
@@ -20,6 +21,6 @@ module _ (s k : ℕ) where
   pub row_goes_on : {g : ℕ → Float} {w₀ w : List Float} {v : Float} → Filled 24 g w₀ (s + k) w → s + k < 24 → v ≡ g (s + k) → Filled 24 g w₀ (s + (k + 1)) (set w (s + k) v)
   row_goes_on f h e = let q : s + (k + 1) ≡ s + k + 1 = omega arith in rw q (one-filled f h e)
 
-  pub row_of_vectors : {g : ℕ → Vector} {v₀ v : Vectors 24} {w : Vector} → FilledVectors 24 g v₀ (s + k) v → s + k < 24 → w ≡ g (s + k)
+  pub row_of_vectors : {g : ℕ → Vector} {v₀ v : Vectors 24} {w : Vector} → FilledVectors 24 g v₀ (s + k) v → s + k < 24 → HasLanes 24 (set_vector v (s + k) w) → w ≡ g (s + k)
       → FilledVectors 24 g v₀ (s + (k + 1)) (set_vector v (s + k) w)
-  row_of_vectors f h e = let q : s + (k + 1) ≡ s + k + 1 = omega arith in rw q (one-vector f h e)
+  row_of_vectors f h m e = let q : s + (k + 1) ≡ s + k + 1 = omega arith in rw q (one-vector f h m e)

@@ -1,5 +1,5 @@
 -- What the structs hold: the facts of Faces and Parts at their fields. Definitions only.
-use Rattle.std.specs.Prelude.{List, ℕ, Float, replicate}
+use Rattle.std.specs.Prelude.{◌≡◌, List, ℕ, Float, length, replicate}
 use Rattle.doubles.specs.Constants.{0·0}
 use Rattle.newtonian.specs.Vectors.{diagonal}
 use Rattle.newtonian.specs.declared.Vector.{Vector}
@@ -9,6 +9,10 @@ use Rattle.polyhedron_faces.specs.declared.Group.{Group}
 use Rattle.polyhedron_faces.specs.Faces.{Describes, Dyads}
 use Rattle.polyhedron_faces.specs.Parts.{RawSides}
 use Rattle.polyhedron_faces.specs.Parts as parts
+
+-- each coordinate has n lanes
+abbrev pub HasLanes : (n : ℕ) → Vectors n → Type 0
+HasLanes n v = (length v.x ≡ n) × (length v.y ≡ n) × (length v.z ≡ n)
 
 -- the n vectors are g 0, g 1, .., g (n - 1)
 abbrev pub Holds : (n : ℕ) → (ℕ → Vector) → Vectors n → Type 0

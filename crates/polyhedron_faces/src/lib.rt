@@ -7,7 +7,7 @@ ghost use Rattle.polyhedron_edge_terms.specs.Corners.{unit};
 ghost use Rattle.lanes.specs.Lanes.{lane, Lanes};
 ghost use Rattle.polyhedron_faces.specs.Faces.{vector_at};
 ghost use Rattle.polyhedron_faces.specs.Parts.{edge_at, raw_side};
-ghost use Rattle.polyhedron_faces.specs.Held.{Holds, HoldsSides, zero_vectors, zero_group};
+ghost use Rattle.polyhedron_faces.specs.Held.{HasLanes, Holds, HoldsSides, zero_vectors, zero_group};
 
 use newtonian::{Hessian, Vector, cross, difference, dot};
 
@@ -41,9 +41,11 @@ impl<const N: usize> Vectors<N> {
         }
     }
 
+    // The first clause is for other crates: a proof there does not know the lengths of the arrays.
     pub fn set(&mut self, k: usize, v: Vector)
         requires { k < N }
-        ensures { self.new ≡ record { x = slice_set self.old.x k v.x; y = slice_set self.old.y k v.y; z = slice_set self.old.z k v.z } }
+        ensures whole { HasLanes N self.new }
+        ensures written { self.new ≡ record { x = slice_set self.old.x k v.x; y = slice_set self.old.y k v.y; z = slice_set self.old.z k v.z } }
     {
         self.x[k] = v.x;
         self.y[k] = v.y;
@@ -56,10 +58,8 @@ pub fn units<const N: usize>(l: &[f64; N], v: &mut Vectors<N>)
     ensures { Holds N (λ (k : ℕ). over (vector_at v.old.x v.old.y v.old.z k) (lane l.now k)) v.new }
 {
     for k in 0..N {
-        let d = l[k];
-        v.x[k] = v.x[k] / d;
-        v.y[k] = v.y[k] / d;
-        v.z[k] = v.z[k] / d;
+        let u = newtonian::over(v.at(k), l[k]);
+        v.set(k, u);
     }
 }
 

@@ -27,7 +27,7 @@ loop-k-preserved c =
     c.cross-s.ensures ∙ ap (λ (a : Vector). cross a c.at-n.result) c.difference-edge.ensures
     ∙ side_is v.x v.y v.z i (s.to + k) ej c.at-a.ensures c.at-b.ensures n.x n.y n.z k ek c.at-n.ensures in
     let f = c.loop-k.invariant in record {
-      sides = rw c.set.ensures (row_of_vectors s.from k f.sides h e₂);
+      sides = rw c.set.ensures.written (row_of_vectors s.from k f.sides h (rw c.set.ensures.written at c.set.ensures.whole) e₂);
       normals = row_goes_on s.from k f.normals h (c.dot.ensures ∙ ap square e₂);
       edges = row_goes_on s.from k f.edges h (c.dot-in-loop-k.ensures ∙ ap square e₁);
     }
