@@ -79,6 +79,6 @@ pub fn logarithms_24(c: &SeenCorners, e: &[f64; 24], out: &mut [f64; 24]) -> boo
 {
     let mut q = [0.0; 24];
     ratios_24(c, e, &mut q);
-    let good = lanes_ln::ln_24(&q, out);
+    let good = lanes_ln::ln(&q, out);
     good & finite_24(out)
 }

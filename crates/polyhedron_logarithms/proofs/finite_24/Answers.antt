@@ -1,9 +1,9 @@
 -- `polyhedron_logarithms::finite_24` meets its contract. Assumes nothing.
-use mathlib.Core.Path.{◌≡◌, subst, ap, ◌∙◌}
+use mathlib.Core.Path.{◌≡◌, refl, subst, ap, ◌∙◌}
 use mathlib.Core.Bool.{Bool, true, ◌&&◌}
 use mathlib.Core.List.{List, [], ◌∷◌, ◌++◌}
 use mathlib.Core.Logic.{⊎_elim}
-use Prim.Native.Nat.{ℕ, ◌<◌}
+use Prim.Native.Nat.{ℕ, ◌-◌, ◌<◌}
 use native.Mathlib.Omega.{arith}
 use lib.Ieee.{Float, nan}
 use lib.Ieee.Scale.{finite}
@@ -24,7 +24,8 @@ finite-push w x a b f e t k l =
     let p = both a (finite x) (rw (← e) t) in
     ⊎_elim
     (λ m. ap finite (get_or_append_left w (x ∷ []) nan k m) ∙ f p.0 k m)
-    (λ m. let z : k ≡ length w + 0 = omega (arith, l, m, length-append w (x ∷ [])) in rw z (ap finite (get_or-append_right w (x ∷ []) (length w) 0 nan (omega arith) (omega arith)) ∙ p.1))
+    (λ m. let z : k - length w ≡ 0 = omega (arith, l, m, length-append w (x ∷ [])) in
+    ap finite (get_or-append_right w (x ∷ []) (length w) k nan refl m ∙ ap (λ (i : ℕ). lane (x ∷ []) i) z) ∙ p.1)
     (below? k (length w))
 
 pub returns : goal.returns
