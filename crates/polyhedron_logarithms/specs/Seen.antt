@@ -1,7 +1,9 @@
 -- The corners in a struct, and the sides between them: the definitions of Sides at its fields. Definitions only.
-use Rattle.std.specs.Prelude.{List, ℕ, Float}
+use Rattle.std.specs.Prelude.{List, ℕ, Float, replicate}
+use Rattle.doubles.specs.Constants.{0·0}
 use Rattle.polyhedron_edge_terms.specs.declared.Corner.{Corner}
 use Rattle.polyhedron_faces.specs.Parts.{FirstLanes}
+use Rattle.polyhedron_faces.specs.Held.{zero_vectors}
 use Rattle.polyhedron_logarithms.specs.declared.SeenCorners.{SeenCorners}
 use Rattle.polyhedron_logarithms.specs.Sides.{corner_at, ratio_at, logarithm_at}
 
@@ -19,3 +21,7 @@ module _ (c : SeenCorners) where
 -- the first n of 24 lanes are what the sides' logarithms are of
 abbrev pub HoldsRatios : ℕ → SeenCorners → List Float → List Float → Type 0
 HoldsRatios n c e w = FirstLanes n (ratio_of c e) w
+
+-- all numbers 0
+abbrev pub zero_corners : SeenCorners
+zero_corners = record { offsets = zero_vectors 24; distances = replicate 24 0·0 }

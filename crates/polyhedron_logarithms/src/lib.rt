@@ -6,7 +6,7 @@ ghost use Rattle.std.specs.Prelude.{◌≡◌, true, ℕ, ◌+◌, ◌%◌, ◌<
 ghost use Rattle.std.specs.Float.Ieee.Scale.{finite};
 ghost use Rattle.lanes.specs.Lanes.{lane, Lanes};
 ghost use Rattle.polyhedron_logarithms.specs.Sides.{ratio};
-ghost use Rattle.polyhedron_logarithms.specs.Seen.{corner_of, logarithm_of, HoldsRatios};
+ghost use Rattle.polyhedron_logarithms.specs.Seen.{corner_of, logarithm_of, HoldsRatios, zero_corners};
 
 use newtonian::{cross, dot};
 use polyhedron_edge_terms::Corner;
@@ -20,6 +20,15 @@ pub struct SeenCorners {
 }
 
 impl SeenCorners {
+    pub fn zeros() -> Self
+        ensures { result ≡ zero_corners }
+    {
+        SeenCorners {
+            offsets: Vectors::zeros(),
+            distances: [0.0; 24],
+        }
+    }
+
     pub fn at(&self, i: usize) -> Corner
         requires { i < 24 }
         ensures { result ≡ corner_of self.now i }
