@@ -1,18 +1,16 @@
--- `polyhedron_neumaier::add_terms` meets its contract. Assumes nothing.
+-- `polyhedron_neumaier::Sums::add` meets its contract. Assumes nothing.
 use mathlib.Core.Path.{◌≡◌}
-use Prim.Native.Nat.{◌-◌}
 use native.Mathlib.Omega.{arith}
 use Rattle.newtonian.specs.Fold.{fold-none, fold_more}
 use Rattle.polyhedron_neumaier.specs.Neumaier.{add_terms}
 use Rattle.newtonian.specs.Vectors.{field_size}
-use borrow.Author.Rules.{rules}
-use Rattle.polyhedron_neumaier.proofs.add_terms.Goals as goal
+use Rattle.polyhedron_neumaier.proofs.Sums.add.Goals as goal
 
 pub loop-k-init : goal.loop-k-init
-loop-k-init c = (search rules, rw fold-none)
+loop-k-init c = rw fold-none
 
 pub loop-k-preserved : goal.loop-k-preserved
-loop-k-preserved c = (search rules, rw fold_more (simp (c.add_term.ensures, c.loop-k.invariant.1)))
+loop-k-preserved c = rw fold_more (simp (c.add.ensures, c.loop-k.invariant))
 
 pub returns : goal.returns
 unfolding add_terms

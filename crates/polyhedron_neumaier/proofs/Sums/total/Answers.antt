@@ -1,6 +1,6 @@
--- `polyhedron_neumaier::totals` meets its contract. Assumes nothing.
+-- `polyhedron_neumaier::Sums::total` meets its contract. Assumes nothing.
 use Rattle.polyhedron_neumaier.specs.Neumaier.{totals}
-use Rattle.polyhedron_neumaier.proofs.totals.Goals as goal
+use Rattle.polyhedron_neumaier.proofs.Sums.total.Goals as goal
 
 pub returns : goal.returns
 unfolding totals

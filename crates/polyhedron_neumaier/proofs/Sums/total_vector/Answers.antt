@@ -1,6 +1,6 @@
--- `polyhedron_neumaier::total_vector` meets its contract. Assumes nothing.
+-- `polyhedron_neumaier::Sums::total_vector` meets its contract. Assumes nothing.
 use Rattle.polyhedron_neumaier.specs.Neumaier.{total_vector}
-use Rattle.polyhedron_neumaier.proofs.total_vector.Goals as goal
+use Rattle.polyhedron_neumaier.proofs.Sums.total_vector.Goals as goal
 
 pub returns : goal.returns
 unfolding total_vector
