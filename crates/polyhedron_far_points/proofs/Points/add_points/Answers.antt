@@ -1,11 +1,11 @@
--- `polyhedron_far_points::add_points` meets its contract. Assumes nothing.
+-- `polyhedron_far_points::Points::add_points` meets its contract. Assumes nothing.
 use mathlib.Core.Path.{◌≡◌, sym, ap, ◌∙◌}
 use Prim.Native.Nat.{◌-◌, ◌<◌}
 use native.Mathlib.Omega.{arith}
 use Rattle.newtonian.specs.Fold.{fold_more, fold-none}
 use Rattle.newtonian.specs.Vectors.{dot}
 use Rattle.newtonian.specs.declared.Vector.{Vector}
-use Rattle.polyhedron_far_points.proofs.add_points.Goals as goal
+use Rattle.polyhedron_far_points.proofs.Points.add_points.Goals as goal
 
 pub loop-k-init : goal.loop-k-init
 loop-k-init c = (omega arith, rw fold-none)

@@ -1,17 +1,17 @@
--- `polyhedron_far_points::points_field` meets its contract. Assumes nothing.
+-- `polyhedron_far_points::Points::field` meets its contract. Assumes nothing.
 use mathlib.Core.Path.{◌≡◌, refl}
 use Prim.Native.Nat.{◌+◌, ◌*◌, ◌-◌}
 use native.Mathlib.Omega.{arith}
 use Rattle.newtonian.specs.Fold.{fold-none}
 use Rattle.lanes.proofs.Folds.{fold-add}
 use Rattle.polyhedron_far_points.specs.Tetrahedral.{point_count, points_field}
-use Rattle.polyhedron_far_points.proofs.points_field.Goals as goal
+use Rattle.polyhedron_far_points.proofs.Points.field.Goals as goal
 
 pub loop-m-init : goal.loop-m-init
 loop-m-init c = (omega arith, refl, refl, rw fold-none c.zero_field-sums.ensures)
 
 pub squares-requires : goal.squares-requires
-squares-requires c = (omega (arith, c.loop-m-test.true), c.loop-m.invariant.1)
+squares-requires c = omega (arith, c.loop-m-test.true)
 
 pub roots_24-requires : goal.roots_24-requires
 roots_24-requires c = c.loop-m.invariant.2
