@@ -1,5 +1,5 @@
 -- The sums of far stations. States: `first-station`, `one-station`, `all-stations`: how a loop over the stations begins, goes on and ends; `no-face`, `one-face`, `more-faces`: how
--- a loop over the faces begins and goes on, by one and by several; `none-far`; `same-sums`: two functions that are the same; `face-added`: the points over a face give what the
+-- a loop over the faces begins and goes on, by one and by several; `same-sums`: two functions that are the same; `face-added`: the points over a face give what the
 -- definition says of the face. Assumes nothing.
 use mathlib.Core.Path.{◌≡◌, refl, sym, ap, ◌∙◌}
 use mathlib.Core.Bool.{Bool, true, false}
@@ -54,9 +54,6 @@ module _ {near : List Bool} {g : ℕ → List Pair → List Pair} where
 
   pub all-stations : {a b : List Sums} {j : ℕ} → Upto near g a j b → 8 ≤ j → FarSums near g a b
   all-stations u l = record { size = u.size; at = λ i m h. u.below i (omega arith) h }
-
-  pub none_far : {a : List Sums} → length a ≡ 8 → ((i : ℕ) → i < 8 → get_or near i false ≡ true) → FarSums near g a a
-  none_far e n = record { size = e; at = λ i l h. absurd (true≢false (sym (n i l) ∙ h)) }
 
   pub same_sums : {h : ℕ → List Pair → List Pair} {a b : List Sums} → ((i : ℕ) → i < 8 → (s : List Pair) → g i s ≡ h i s) → FarSums near g a b → FarSums near h a b
   same_sums {h} {a} e f = record { size = f.size; at = λ i l n. f.at i l n ∙ e i l (sums_at a i) }

@@ -164,7 +164,7 @@ impl EightFields {
         stations.squares(a, 0, &mut d.squares);
         stations.squares(b, 8, &mut d.squares);
         stations.squares(c, 16, &mut d.squares);
-        lanes::roots_24(&d.squares, &mut d.roots);
+        lanes::roots(&d.squares, &mut d.roots);
         self.add_point(points.w[n], a, stations, 0, d);
         self.add_point(points.w[n + 1], b, stations, 8, d);
         self.add_point(points.w[n + 2], c, stations, 16, d);

@@ -125,7 +125,7 @@ impl Points {
         let mut sums = newtonian::zero_field();
         for m in 0..9usize {
             self.squares(p, 24 * m, &mut q);
-            lanes::roots_24(&q, &mut r);
+            lanes::roots(&q, &mut r);
             sums = self.add_points(p, 24 * m, &q, &r, sums);
         }
         sums

@@ -8,7 +8,7 @@ use Rattle.polyhedron_far_points.specs.Tetrahedral.{point_step}
 use Rattle.polyhedron_far_points.proofs.Points.field.Given as goal
 
 abbrev pub invariant-loop-m : goal.invariant-loop-m
-invariant-loop-m l = (l.m ≤ 9) × (length l.q ≡ 24) × (length l.r ≡ 24) × (l.sums ≡ Fold (24 * l.m) (point_step l.p l.self.x l.self.y l.self.z l.self.w) zero_field)
+invariant-loop-m l = (l.m ≤ 9) × (l.sums ≡ Fold (24 * l.m) (point_step l.p l.self.x l.self.y l.self.z l.self.w) zero_field)
 
 abbrev pub decreases-loop-m : goal.decreases-loop-m
 decreases-loop-m l = 9 - l.m
