@@ -1,6 +1,6 @@
--- `prism_pieces::with` meets its contract. Assumes nothing.
+-- `prism_pieces::Axis::with` meets its contract. Assumes nothing.
 use Rattle.prism_pieces.specs.Choice.{with}
-use Rattle.prism_pieces.proofs.with.Goals as goal
+use Rattle.prism_pieces.proofs.Axis.with.Goals as goal
 
 pub returns-in-X : goal.returns-in-X
 unfolding with

@@ -1,6 +1,6 @@
--- `prism_pieces::along` meets its contract. Assumes nothing.
+-- `prism_pieces::Axis::along` meets its contract. Assumes nothing.
 use Rattle.prism_pieces.specs.Choice.{along}
-use Rattle.prism_pieces.proofs.along.Goals as goal
+use Rattle.prism_pieces.proofs.Axis.along.Goals as goal
 
 pub returns-in-X : goal.returns-in-X
 unfolding along
