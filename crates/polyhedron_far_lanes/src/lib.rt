@@ -147,7 +147,13 @@ impl EightFields {
         for k in 0..8usize {
             let p = stations.at(k);
             let f = self.at(k);
-            let v = newtonian::add_point_at(w, difference(u, p), d.squares[o + k], d.roots[o + k], f);
+            let v = newtonian::add_point_at(
+                w,
+                difference(u, p),
+                d.squares[o + k],
+                d.roots[o + k],
+                f,
+            );
             self.put(k, v);
         }
     }

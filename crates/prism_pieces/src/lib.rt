@@ -81,7 +81,10 @@ fn axis_order(d: f64, h: f64) -> u32
 fn affordable(l: u32, m: u32, n: u32) -> bool
     ensures { result ≡ affordable l m n }
 {
-    l <= MAX_ORDER && m <= MAX_ORDER && n <= MAX_ORDER && l * m * n <= MAX_POINTS
+    if l > MAX_ORDER || m > MAX_ORDER || n > MAX_ORDER {
+        return false;
+    }
+    l * m * n <= MAX_POINTS
 }
 
 fn last_longest(h: Vector) -> Axis
