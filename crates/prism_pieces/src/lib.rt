@@ -3,18 +3,19 @@
 // prism takes it by the halves given here.
 #![tactic(auto)]
 
-ghost use Rattle.std.specs.Prelude.{◌≡◌, cond};
+ghost use Rattle.std.specs.Prelude.{◌≡◌};
 ghost use Rattle.prism_pieces.specs.Choice.{squared_outside, distance, ceiling, axis_order, affordable, last_longest, longest, shortest, along, with, corner_distance, farthest_corner, too_rough, bisected, piece_near, piece_outside, piece_of};
 
+use lanes::pick;
 use newtonian::{Newtonian, Vector};
 
 // The rule for the longest axis where several are equally long.
-#[derive(Clone, Copy)]
+#[derive(Clone, Copy, Debug, PartialEq, Eq)]
 pub enum AxisRule {
     LastOfEquals,
 }
 
-#[derive(Clone, Copy)]
+#[derive(Clone, Copy, Debug, PartialEq, Eq)]
 pub enum Axis {
     X,
     Y,
@@ -80,13 +81,7 @@ fn axis_order(d: f64, h: f64) -> u32
 fn affordable(l: u32, m: u32, n: u32) -> bool
     ensures { result ≡ affordable l m n }
 {
-    if l > MAX_ORDER {
-        return false;
-    }
-    if m > MAX_ORDER {
-        return false;
-    }
-    if n > MAX_ORDER {
+    if l > MAX_ORDER || m > MAX_ORDER || n > MAX_ORDER {
         return false;
     }
     l * m * n <= MAX_POINTS
@@ -117,50 +112,36 @@ fn shortest(h: Vector) -> f64
     doubles::min(doubles::min(doubles::min(infinity, h.x), h.y), h.z)
 }
 
-fn along(a: Axis, v: Vector) -> f64
-    ensures { result ≡ along a v }
-{
-    match a {
-        Axis::X => v.x,
-        Axis::Y => v.y,
-        Axis::Z => v.z,
+impl Axis {
+    // The entry of v along it.
+    fn along(self, v: Vector) -> f64
+        ensures { result ≡ along self v }
+    {
+        match self {
+            Axis::X => v.x,
+            Axis::Y => v.y,
+            Axis::Z => v.z,
+        }
     }
-}
 
-fn with(a: Axis, t: f64, v: Vector) -> Vector
-    ensures { result ≡ with a t v }
-{
-    match a {
-        Axis::X => Vector {
-            x: t,
-            y: v.y,
-            z: v.z,
-        },
-        Axis::Y => Vector {
-            x: v.x,
-            y: t,
-            z: v.z,
-        },
-        Axis::Z => Vector {
-            x: v.x,
-            y: v.y,
-            z: t,
-        },
+    // v with t along it.
+    fn with(self, t: f64, v: Vector) -> Vector
+        ensures { result ≡ with self t v }
+    {
+        match self {
+            Axis::X => Vector { x: t, ..v },
+            Axis::Y => Vector { y: t, ..v },
+            Axis::Z => Vector { z: t, ..v },
+        }
     }
-}
-
-fn pick(upper: bool, lo: f64, hi: f64) -> f64
-    ensures { result ≡ cond upper hi lo }
-{
-    if upper { hi } else { lo }
 }
 
 fn corner_distance(p: Vector, lo: Vector, hi: Vector, k: u32) -> f64
     ensures { result ≡ corner_distance p lo hi k }
 {
-    let x = pick(k % 2 == 1, lo.x, hi.x) - p.x;
-    let y = pick(k / 2 % 2 == 1, lo.y, hi.y) - p.y;
-    let z = pick(k / 4 % 2 == 1, lo.z, hi.z) - p.z;
+    let x = pick(k % 2 == 1, hi.x, lo.x) - p.x;
+    let y = pick(k / 2 % 2 == 1, hi.y, lo.y) - p.y;
+    let z = pick(k / 4 % 2 == 1, hi.z, lo.z) - p.z;
     roots::root(-0.0 + x * x + y * y + z * z)
 }
 
@@ -185,9 +166,9 @@ fn too_rough(r: f64, v: f64) -> bool
 fn bisected(a: Axis, lo: Vector, hi: Vector) -> Piece
     ensures { result ≡ bisected a lo hi }
 {
-    let mid = 0.5 * (along(a, lo) + along(a, hi));
-    let lower_max = with(a, mid, hi);
-    let upper_min = with(a, mid, lo);
+    let mid = 0.5 * (a.along(lo) + a.along(hi));
+    let lower_max = a.with(mid, hi);
+    let upper_min = a.with(mid, lo);
     Piece::Halves(lower_max, upper_min)
 }
 
@@ -197,7 +178,7 @@ fn piece_near(rule: AxisRule, p: Vector, lo: Vector, hi: Vector, h: Vector) -> P
 {
     let s = prism_corner_lanes::corner_sums(p, lo, hi);
     let a = longest(rule, h);
-    if along(a, h) > 2.0 * shortest(h) {
+    if a.along(h) > 2.0 * shortest(h) {
         if too_rough(farthest_corner(p, lo, hi), s.potential) {
             return bisected(a, lo, hi);
         }
