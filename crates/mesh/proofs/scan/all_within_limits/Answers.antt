@@ -1,6 +1,6 @@
 -- `mesh::scan::all_within_limits` meets its contract: the fold notes whether the numbers so far are within limits. Assumes nothing.
 use mathlib.Core.Path.{◌≡◌, subst}
-use mathlib.Core.Bool.{Bool, true, ◌&&◌}
+use mathlib.Core.Bool.{◌&&◌}
 use mathlib.Core.List.{List}
 use lib.Ieee.{Float, nan}
 use borrow.Author.Rules.{rules}
