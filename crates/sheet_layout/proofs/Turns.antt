@@ -5,7 +5,7 @@ use Prim.Native.Nat.{ℕ, zero, suc, ◌+◌, ◌*◌, ◌≤◌, ◌<◌}
 use native.Mathlib.Nat.{zero-add, mul_comm, le_of_lt, not-suc-le-zero}
 use native.Mathlib.Omega.{arith}
 use native.Mathlib.Numerals.{add-one}
-use lib.ListN.{length, get_or, set, take, replicate, length-map, length-replicate, replicate-append-replicate}
+use lib.ListN.{length, get_or, set, take, length-map}
 use lib.Seq.{sets, length-take-le, take-suc, take_all}
 use Rattle.sheet_layout.specs.LittleEndian.{bytes, number, pack, unpack}
 use Rattle.sheet_layout.proofs.Stores.{sets_then, sets_all}

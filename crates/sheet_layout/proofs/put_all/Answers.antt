@@ -1,9 +1,9 @@
 -- `sheet_layout::put_all` meets its contract: so far, the first i numbers are written. Assumes nothing.
-use mathlib.Core.Path.{◌≡◌, refl, ap, ◌∙◌}
-use mathlib.Core.List.{List, map}
-use Prim.Native.Nat.{ℕ, ◌+◌, ◌*◌, ◌≤◌}
+use mathlib.Core.Path.{refl, ap, ◌∙◌}
+use mathlib.Core.List.{map}
+use Prim.Native.Nat.{ℕ, ◌+◌, ◌*◌}
 use native.Mathlib.Omega.{arith}
-use lib.ListN.{length, length-map}
+use lib.ListN.{length-map}
 use lib.Seq.{sets}
 use Rattle.sheet_layout.specs.LittleEndian.{bytes, pack}
 use Rattle.sheet_layout.proofs.Turns.{map_at, put-turn, put-end}

@@ -1,6 +1,5 @@
 -- `u32::put` meets its contract. Assumes nothing.
 use native.Mathlib.Numerals.{add-one}
-use Rattle.sheet_layout.specs.LittleEndian.{bytes}
 use Rattle.sheet_layout.proofs.Numbers.{bytes_four, two, three}
 use Rattle.sheet_layout.proofs.U32Stored.put.Goals as goal
 
