@@ -1,5 +1,5 @@
 // The scans of `check_mesh`: the first number, corner or place of the order list that fails a test.
-ghost use Rattle.std.specs.Prelude.{◌≡◌, true, ◌&&◌, ◌*◌, ◌<◌, ◌≤◌, length, leb};
+ghost use Rattle.std.specs.Prelude.{◌≡◌, true, ◌*◌, ◌<◌, ◌≤◌, length, leb};
 ghost use Rattle.refusals.specs.Causes.{unless};
 ghost use Rattle.refusals.specs.declared.Refusal.TheVariants.{OutOfLimits};
 ghost use Rattle.refusals.specs.declared.Cause.TheVariants.{None};
@@ -16,26 +16,11 @@ use mesh_orders::mates::mate;
 use mesh_orders::order::pass;
 use refusals::{Cause, Refusal};
 
-// a and b. A loop that uses it tests all its numbers and does not stop at the first that fails, so that the compiler can test several at a time.
-fn both(a: bool, b: bool) -> bool
-    ensures { result ≡ (a && b) }
-{
-    if a {
-        return b;
-    }
-    false
-}
-
+// Whether all numbers are within the limits. It does not stop at the first that is not, so that the compiler can test several at a time.
 fn all_within_limits(numbers: &[f64]) -> bool
     ensures { unless result OutOfLimits ≡ out_of_limits numbers.now }
 {
-    let mut all = true;
-    let mut i = 0;
-    while i < numbers.len() {
-        all = both(all, within_limits(numbers[i]));
-        i += 1;
-    }
-    all
+    numbers.iter().fold(true, |all, x| all & within_limits(*x))
 }
 
 // Cause 3: a number that is not finite, or over 10⁹.
@@ -48,26 +33,20 @@ pub fn out_of_limits(numbers: &[f64]) -> Cause
     Cause::Refused(Refusal::OutOfLimits)
 }
 
-// Whether all corners are below a number of 32 bits, of which a packed instruction compares four.
+// Whether all corners are below a number of 32 bits, of which a packed instruction compares four. Nor does it stop.
 fn all_below(vertices: u32, faces: &[u32]) -> bool
     ensures { result ≡ true → no_such_vertex vertices faces.now ≡ None }
 {
-    let mut all = true;
-    let mut i = 0;
-    while i < faces.len() {
-        all = both(all, faces[i] < vertices);
-        i += 1;
-    }
-    all
+    faces.iter().fold(true, |all, v| all & (*v < vertices))
 }
 
 fn all_name_vertices(vertices: usize, faces: &[u32]) -> bool
     ensures { result ≡ true → no_such_vertex vertices faces.now ≡ None }
 {
-    if 0x1_0000_0000 <= vertices {
-        return false;
+    match u32::try_from(vertices) {
+        Ok(n) => all_below(n, faces),
+        Err(_) => false,
     }
-    all_below(vertices as u32, faces)
 }
 
 // Cause 4: the face of the first corner that names none of the vertices. It is looked for only where there is one.
@@ -78,12 +57,10 @@ pub fn no_such_vertex(vertices: usize, faces: &[u32]) -> Cause
     if all_name_vertices(vertices, faces) {
         return Cause::None;
     }
-    let mut i = 0;
-    while i < faces.len() {
-        if vertices <= faces[i] as usize {
+    for (i, v) in faces.iter().enumerate() {
+        if vertices <= *v as usize {
             return Cause::Refused(Refusal::NoSuchVertex((i / 3) as u32));
         }
-        i += 1;
     }
     Cause::None
 }
@@ -93,13 +70,11 @@ pub fn flipped_edge(faces: &[u32], order: &[u32]) -> Cause
     requires { Faces faces.now × (order.now ≡ order_list faces.now) }
     ensures { result ≡ flipped_edge faces.now (order_list faces.now) }
 {
-    let mut i = 0;
-    while i + 1 < order.len() {
-        let u = order[i];
-        if edge(faces, u) == edge(faces, order[i + 1]) {
+    for i in 1..order.len() {
+        let u = order[i - 1];
+        if edge(faces, u) == edge(faces, order[i]) {
             return Cause::Refused(Refusal::Flipped(start(faces, u), end(faces, u)));
         }
-        i += 1;
     }
     Cause::None
 }
@@ -109,13 +84,7 @@ fn has_reverse(faces: &[u32], order: &[u32], u: u32, w: u32) -> bool
     requires { Faces faces.now × (order.now ≡ order_list faces.now) × (u < length faces.now) × (w < length faces.now) }
     ensures { result ≡ leb 1 (occurrences faces.now (to faces.now u) (from faces.now u)) }
 {
-    if edge(faces, w) == reverse(faces, u) {
-        return true;
-    }
-    if (mate(faces, order, u) as usize) < faces.len() {
-        return true;
-    }
-    false
+    edge(faces, w) == reverse(faces, u) || (mate(faces, order, u) as usize) < faces.len()
 }
 
 // Cause 6, with a guess for the reverse of each use in the order list.
@@ -123,13 +92,10 @@ fn first_open(faces: &[u32], order: &[u32], guesses: &[u32]) -> Cause
     requires { Faces faces.now × (order.now ≡ order_list faces.now) × Uses faces.now guesses.now × (length guesses.now ≡ length faces.now) }
     ensures { result ≡ open_edge faces.now (order_list faces.now) }
 {
-    let mut i = 0;
-    while i < order.len() {
-        let u = order[i];
+    for (i, &u) in order.iter().enumerate() {
         if !has_reverse(faces, order, u, guesses[i]) {
             return Cause::Refused(Refusal::Open(start(faces, u), end(faces, u)));
         }
-        i += 1;
     }
     Cause::None
 }
@@ -141,6 +107,6 @@ pub fn open_edge(faces: &[u32], order: &[u32], counts: &mut [u32], spare: &mut [
     ensures value { result ≡ open_edge faces.now (order_list faces.now) }
     ensures placed { Placed (endpoint true faces.now) (order_list faces.now) spare.new }
 {
-    pass(faces, order, true, counts, spare);
+    pass(order, |u| end(faces, u), counts, spare);
     first_open(faces, order, spare)
 }

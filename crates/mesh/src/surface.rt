@@ -43,12 +43,7 @@ pub fn normal(verts: &[f64], faces: &[u32], k: usize) -> Vector
 pub fn is_zero(n: Vector) -> bool
     ensures { result ≡ is_zero n }
 {
-    if n.x == 0.0 {
-        if n.y == 0.0 {
-            return n.z == 0.0;
-        }
-    }
-    false
+    n.x == 0.0 && n.y == 0.0 && n.z == 0.0
 }
 
 // What face k adds to the volume.
@@ -65,13 +60,11 @@ pub fn check_faces(verts: &[f64], faces: &[u32]) -> Solid
     ensures { result ≡ solid_of (faces_cause verts.now faces.now) (volume verts.now faces.now) }
 {
     let mut sum = 0.0;
-    let mut k = 0;
-    while k < faces.len() / 3 {
+    for k in 0..faces.len() / 3 {
         if is_zero(normal(verts, faces, k)) {
             return Solid::Refused(Refusal::Degenerate(k as u32));
         }
-        sum = sum + face_volume(verts, faces, k);
-        k += 1;
+        sum += face_volume(verts, faces, k);
     }
     if 0.0 < sum {
         return Solid::Volume(sum);

@@ -15,10 +15,8 @@ pub(crate) fn put_mates(order: &[u32], partners: &[u32], out: &mut [u8])
     ensures { (f : List ℕ) → order.now ≡ order_list f → HoldsMates f partners.now → out.new ≡ sets out.old 0 (pack 4 (mates f)) }
 {
     let n = out.len() / 4;
-    let mut k = 0;
-    while k < n {
+    for k in 0..n {
         let u = order[k] as usize;
         put_u32(out, 4 * u, partners[k]);
-        k += 1;
     }
 }

@@ -22,10 +22,7 @@ fn next(u: u32) -> usize
     ensures { result ≡ next u }
 {
     let i = u as usize;
-    if i % 3 == 2 {
-        return i - 2;
-    }
-    i + 1
+    if i % 3 == 2 { i - 2 } else { i + 1 }
 }
 
 // The vertex that edge use u reaches.
@@ -40,7 +37,7 @@ pub fn end(faces: &[u32], u: u32) -> u32
 pub fn number(from: u32, to: u32) -> u64
     ensures { result ≡ edge_number from to }
 {
-    (from as u64) * 4294967296 + (to as u64)
+    u64::from(from) * 0x1_0000_0000 + u64::from(to)
 }
 
 // The edge of use u.

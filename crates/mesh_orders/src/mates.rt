@@ -7,22 +7,12 @@ ghost use Rattle.mesh_orders.specs.Mates.{mate};
 
 use crate::edges::{edge, reverse};
 
-// The first place of the order list whose edge is at least e.
+// The first place of the order list whose edge is at least e. Every entry is a use; the test is for `partition_point`, which asks for a closure that may be called at any number.
 fn lower(faces: &[u32], order: &[u32], e: u64) -> usize
     requires { Uses faces.now order.now × Sorted (edge faces.now) order.now }
     ensures { LowerBound (edge faces.now) order.now e result }
 {
-    let mut lo = 0;
-    let mut hi = order.len();
-    while lo < hi {
-        let mid = lo + (hi - lo) / 2;
-        if edge(faces, order[mid]) < e {
-            lo = mid + 1;
-        } else {
-            hi = mid;
-        }
-    }
-    lo
+    order.partition_point(|w| (*w as usize) < faces.len() && edge(faces, *w) < e)
 }
 
 // The use that is the reverse of use u, or 3F where there is none, by a search in the order list.
@@ -32,12 +22,8 @@ pub fn mate(faces: &[u32], order: &[u32], u: u32) -> u32
 {
     let e = reverse(faces, u);
     let i = lower(faces, order, e);
-    if order.len() <= i {
-        return faces.len() as u32;
+    match order.get(i) {
+        Some(&w) if edge(faces, w) == e => w,
+        _ => faces.len() as u32,
     }
-    let w = order[i];
-    if edge(faces, w) == e {
-        return w;
-    }
-    faces.len() as u32
 }

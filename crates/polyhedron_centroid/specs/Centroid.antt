@@ -1,13 +1,14 @@
 -- The centroid and the radius of a polyhedron's vertices, with the roundings in the order of the Rust's `polyhedron`. Both are over the used vertices alone, those that a
 -- face names, in ascending number. v is the vertex list and f the face list. Definitions only.
-use Rattle.std.specs.Prelude.{ℕ, ◌+◌, Bool, cond, List, leb, pos, Float}
+use Rattle.std.specs.Prelude.{◌≡◌, ℕ, ◌+◌, ◌*◌, ◌≤◌, ◌<◌, Bool, cond, List, leb, pos, Float}
 use Rattle.std.specs.Float.{binary64}
 use Rattle.std.specs.Float.Ieee.{of_int}
 use Rattle.doubles.specs.Rounded.{◌⊕◌, ◌⊗◌}
 use Rattle.doubles.specs.Constants.{0·0, -0·0}
 use Rattle.doubles.specs.Magnitude.{max}
 use Rattle.roots.specs.Root.{Root}
-use Rattle.lists.specs.Count.{count}
+use Rattle.lists.specs.Count.{count, Below}
+use Rattle.mesh_orders.specs.Edges.{max_faces}
 use Rattle.newtonian.specs.Fold.{Fold}
 use Rattle.newtonian.specs.Vectors.{difference, over, add_vectors}
 use Rattle.newtonian.specs.declared.Vector.{Vector}
@@ -24,6 +25,19 @@ if_used f step i a = cond (used f i) (step i a) a
 
 abbrev pub over_used : {A : Type 0} → List ℕ → ℕ → (ℕ → A → A) → A → A
 over_used f n step a = Fold n (if_used f step) a
+
+-- a function with this `post` takes the step s
+abbrev pub Takes : {A : Type 0} → (ℕ → A → A → Type 0) → (ℕ → A → A) → Type 0
+Takes {A} post s = (i : ℕ) (a r : A) → post i a r → r ≡ s i a
+
+-- a function with these predicates may be called at each used vertex of f in turn, from first on: where it asks for fewer steps than there are edge uses, `steps` counts them
+pub record Steps {A : Type 0} (pre : ℕ → A → Type 0) (post : ℕ → A → A → Type 0) (f : List ℕ) (first : A) : Type 0 where
+  pub bound : ℕ
+  pub inside : Below f bound
+  pub steps : A → ℕ
+  pub begins : steps first ≡ 0
+  pub grows : (i : ℕ) (a r : A) → post i a r → steps r ≤ steps a + 1
+  pub callable : (i : ℕ) (a : A) → i < bound → steps a < 3 * max_faces → pre i a
 
 -- ---- the centroid: the sum of the used vertices, from −0 on, over their count
 

@@ -1,12 +1,13 @@
 // The centroid and the radius of a polyhedron, over its used vertices.
 #![tactic(auto)]
 
-ghost use Rattle.std.specs.Prelude.{◌≡◌, ◌*◌, ◌<◌};
+ghost use Rattle.std.specs.Prelude.{◌≡◌, ℕ, ◌*◌, ◌<◌};
+ghost use Rattle.lists.specs.Count.{Below};
 ghost use Rattle.doubles.specs.Constants.{0·0};
-ghost use Rattle.mesh_orders.specs.Edges.{max_faces};
+ghost use Rattle.mesh_orders.specs.Edges.{Faces, max_faces};
 ghost use Rattle.mesh_orders.specs.Order.{order_list};
 ghost use Rattle.mesh.specs.Surface.{Body, vertex_count};
-ghost use Rattle.polyhedron_centroid.specs.Centroid.{over_used, no_tally, add_vertex, tally_used, tally_mean, centroid, squared_distance, farther, radius};
+ghost use Rattle.polyhedron_centroid.specs.Centroid.{Steps, Takes, over_used, no_tally, add_vertex, tally_used, tally_mean, centroid, squared_distance, farther, radius};
 
 use newtonian::{Vector, difference};
 
@@ -40,23 +41,29 @@ fn add_vertex(verts: &[f64], i: u32, t: Tally) -> Tally
     }
 }
 
-// The used vertices. The order list has them by number; next is one more than the last.
+// Takes each used vertex, in ascending number, by step. The order list has them by number; next is one more than the last.
+fn fold_used<A: Copy, F: Fn(u32, A) -> A>(faces: &[u32], order: &[u32], first: A, step: F) -> A
+    requires faces { Faces faces.now × (order.now ≡ order_list faces.now) }
+    requires steps { Steps (F.pre step) (F.post step) faces.now first }
+    ensures { (s : ℕ → A → A) (v : ℕ) → Takes (F.post step) s → Below faces.now v → result ≡ over_used faces.now v s first }
+{
+    let mut taken = first;
+    let mut next = 0;
+    for &u in order {
+        let x = mesh_orders::edges::start(faces, u);
+        if next <= x {
+            taken = step(x, taken);
+            next = x + 1;
+        }
+    }
+    taken
+}
+
 fn tally_used(verts: &[f64], faces: &[u32], order: &[u32]) -> Tally
     requires { Body verts.now faces.now × (order.now ≡ order_list faces.now) }
     ensures { result ≡ tally_used verts.now faces.now }
 {
-    let mut t = no_tally();
-    let mut next = 0;
-    let mut i = 0;
-    while i < order.len() {
-        let x = mesh_orders::edges::start(faces, order[i]);
-        if next <= x {
-            t = add_vertex(verts, x, t);
-            next = x + 1;
-        }
-        i += 1;
-    }
-    t
+    fold_used(faces, order, no_tally(), |i, t| add_vertex(verts, i, t))
 }
 
 fn tally_mean(t: Tally) -> Vector
@@ -88,23 +95,12 @@ fn farther(c: Vector, verts: &[f64], i: u32, m: f64) -> f64
     doubles::max(m, squared_distance(mesh::surface::vertex(verts, i), c))
 }
 
-// The greatest squared distance of a used vertex from c, in the way of `tally_used`.
+// The greatest squared distance of a used vertex from c.
 fn farthest(c: Vector, verts: &[f64], faces: &[u32], order: &[u32]) -> f64
     requires { Body verts.now faces.now × (order.now ≡ order_list faces.now) }
     ensures { result ≡ over_used faces.now (vertex_count verts.now) (farther c verts.now) 0·0 }
 {
-    let mut m = 0.0;
-    let mut next = 0;
-    let mut i = 0;
-    while i < order.len() {
-        let x = mesh_orders::edges::start(faces, order[i]);
-        if next <= x {
-            m = farther(c, verts, x, m);
-            next = x + 1;
-        }
-        i += 1;
-    }
-    m
+    fold_used(faces, order, 0.0, |i, m| farther(c, verts, i, m))
 }
 
 // The greatest distance of a used vertex of a body from c, by its order list.

@@ -4,18 +4,11 @@ use mathlib.Core.Bool.{false}
 use mathlib.Core.List.{List, [], ◌∷◌}
 use Prim.{tt}
 use Prim.Native.Nat.{ℕ, zero, suc, ◌^◌, ◌<◌}
-use native.Mathlib.Nat.{not-suc-le-zero}
 use native.Mathlib.Omega.{arith}
 use lib.ListN.{length, get_or}
 use lib.Ieee.{Float, nan, binary64, of_bits, to_bits, is_nan}
 use lib.Ieee.Bits.{to_bits-of_bits, of_bits-to_bits, to_bits-lt}
 use Rattle.sheet_layout.specs.LittleEndian.{bits, doubles, IsDoubles}
-
--- the bits of one double of a list
-pub bits_at : (xs : List Float) (i : ℕ) → i < length xs → get_or (bits xs) i 0 ≡ to_bits binary64 (get_or xs i nan)
-bits_at [] i h = absurd (not-suc-le-zero h)
-bits_at (x ∷ xs) zero h = refl
-bits_at (x ∷ xs) (suc i) h = bits_at xs i (omega arith)
 
 pub bits-lt : (xs : List Float) → IsDoubles xs → (i : ℕ) → get_or (bits xs) i 0 < 256 ^ 8
 bits-lt [] h i = omega arith

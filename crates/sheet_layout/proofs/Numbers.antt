@@ -7,6 +7,7 @@ use native.Mathlib.Numerals.{add-one}
 use native.Mathlib.Omega.{arith}
 use lib.ListN.{length, get_or, take, drop}
 use lib.Seq.{drop-cons, get_or-take, get_or-drop}
+use Rattle.std.specs.Int.{w32, to_le_bytes, from_le_bytes}
 use Rattle.sheet_layout.specs.LittleEndian.{bytes, number, IsBytes}
 
 pub bytes-length : (k n : ℕ) → length (bytes k n) ≡ k
@@ -73,17 +74,24 @@ three i = omega arith
 pub four : (i : ℕ) → i + 4 ≡ suc (suc (suc (suc i)))
 four i = omega arith
 
-pub number-four : (b : List ℕ) (i : ℕ) → number 4 b i ≡ get_or b i 0 + 256 * (get_or b (i + 1) 0 + 256 * (get_or b (i + 2) 0 + 256 * get_or b (i + 3) 0))
+cons : {x y : ℕ} {xs ys : List ℕ} → x ≡ y → xs ≡ ys → x ∷ xs ≡ y ∷ ys
+cons p q = cc
+
+number-four : (b : List ℕ) (i : ℕ) → number 4 b i ≡ get_or b i 0 + 256 * (get_or b (i + 1) 0 + 256 * (get_or b (i + 2) 0 + 256 * get_or b (i + 3) 0))
 unfolding number
 number-four b i = rw (add-one, two, three) (omega arith)
+
+pub from_four : (b : List ℕ) (i : ℕ) → from_le_bytes w32 (get_or b i 0 ∷ get_or b (i + 1) 0 ∷ get_or b (i + 2) 0 ∷ get_or b (i + 3) 0 ∷ []) ≡ number 4 b i
+from_four b i = rw number-four (omega arith)
+
+pub bytes_four : (x : ℕ) → to_le_bytes w32 x ≡ bytes 4 x
+unfolding bytes
+bytes_four x = cons (omega arith) (cons (omega arith) (cons (omega arith) (cons (omega arith) refl)))
 
 -- eight bytes are four and four
 pub number_eight : (b : List ℕ) (i : ℕ) → number 8 b i ≡ number 4 b i + 4294967296 * number 4 b (i + 4)
 unfolding number
 number_eight b i = rw four (omega arith)
-
-cons : {x y : ℕ} {xs ys : List ℕ} → x ≡ y → xs ≡ ys → x ∷ xs ≡ y ∷ ys
-cons p q = cc
 
 pub bytes_eight : (x : ℕ) → bytes 8 x ≡ bytes 4 (x % 4294967296) ++ bytes 4 (x / 4294967296)
 unfolding bytes

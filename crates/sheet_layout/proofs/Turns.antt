@@ -1,14 +1,21 @@
 -- One turn of a loop that writes or reads a list, and its end. Assumes nothing.
 use mathlib.Core.Path.{◌≡◌, refl, ap, ◌∙◌}
 use mathlib.Core.List.{List, [], ◌∷◌, append-nil, map, map-append}
-use Prim.Native.Nat.{ℕ, ◌+◌, ◌*◌, ◌≤◌, ◌<◌}
-use native.Mathlib.Nat.{zero-add, mul_comm, le_of_lt}
+use Prim.Native.Nat.{ℕ, zero, suc, ◌+◌, ◌*◌, ◌≤◌, ◌<◌}
+use native.Mathlib.Nat.{zero-add, mul_comm, le_of_lt, not-suc-le-zero}
+use native.Mathlib.Omega.{arith}
 use native.Mathlib.Numerals.{add-one}
-use lib.ListN.{length, get_or, set, take, replicate, length-map, length-replicate, replicate-append-replicate}
+use lib.ListN.{length, get_or, set, take, length-map}
 use lib.Seq.{sets, length-take-le, take-suc, take_all}
 use Rattle.sheet_layout.specs.LittleEndian.{bytes, number, pack, unpack}
 use Rattle.sheet_layout.proofs.Stores.{sets_then, sets_all}
 use Rattle.sheet_layout.proofs.Lists.{pack-append, pack-length, unpack-length, unpack-append}
+
+-- the number of an entry
+pub map_at : {A : Type 0} (f : A → ℕ) (xs : List A) (i : ℕ) (x : A) → i < length xs → x ≡ get_or xs i x → f x ≡ get_or (map f xs) i 0
+map_at f [] i x h e = absurd (not-suc-le-zero h)
+map_at f (y ∷ ys) zero x h e = ap f e
+map_at f (y ∷ ys) (suc i) x h e = map_at f ys i x (omega arith) e
 
 module _ (k : ℕ) (l : List ℕ) (at i : ℕ) (xs : List ℕ) where
   put_next : i < length xs → sets (sets l at (pack k (take i xs))) (at + k * i) (bytes k (get_or xs i 0)) ≡ sets l at (pack k (take (i + 1) xs))
@@ -40,7 +47,3 @@ module _ {A : Type 0} (f : ℕ → A) (k : ℕ) (l : List A) (b : List ℕ) (at 
 pub map_id : (xs : List ℕ) → map (λ x. x) xs ≡ xs
 map_id [] = refl
 map_id (x ∷ xs) = ap (λ (r : List ℕ). x ∷ r) (map_id xs)
-
-pub zero_turn : (l : List ℕ) (i : ℕ) {s : List ℕ} → s ≡ sets l 0 (replicate i 0) → set s i 0 ≡ sets l 0 (replicate (i + 1) 0)
-zero_turn l i p =
-    rw (p, ← replicate-append-replicate {A = ℕ} i 1 0) (sets_then l 0 i (replicate i 0) (0 ∷ []) (rw (length-replicate, zero-add)))

@@ -2,3 +2,4 @@
 pub mod LittleEndian
 pub mod Parts
 pub mod WorkedExamples
+pub mod Doubles

@@ -1,18 +1,132 @@
 // Numbers in lent bytes, lowest byte first: u32, u64 and f64, one at a time and in runs.
 #![tactic(auto)]
 
-ghost use Rattle.std.specs.Prelude.{◌≡◌, ◌+◌, ◌*◌, ◌≤◌, ◌<◌, length, replicate};
+ghost use Rattle.std.specs.Prelude.{◌≡◌, ℕ, ◌+◌, ◌*◌, ◌^◌, ◌≤◌, ◌<◌, map, length, replicate, refl, T};
 ghost use Rattle.std.proofs.lemmas.List.Edits.{sets};
 ghost use Rattle.std.specs.Float.{binary64};
-ghost use Rattle.std.specs.Float.Ieee.{to_bits, of_bits};
+ghost use Rattle.std.specs.Float.Ieee.{fits, to_bits, of_bits};
 ghost use Rattle.sheet_layout.specs.LittleEndian.{bytes, number, pack, unpack, bits, doubles};
+ghost use Rattle.sheet_layout.specs.Doubles.{double_back};
 
 use doubles::{of_bits, to_bits};
 
-fn wide(x: u8) -> u32
-    ensures { (result ≡ x) × (result < 256) }
+// A number that stands in bytes, lowest byte first.
+pub trait Stored: Copy {
+    // In how many bytes it stands, as which number, and what it is of a number.
+    ghost SIZE: { ℕ };
+
+    ghost as_number: { Self → ℕ };
+
+    ghost of_number: { ℕ → Self };
+
+    // What a value has to be so that it is read as it was written.
+    ghost IsWhole: { Self → Type 0 };
+
+    const SIZE: usize;
+
+    // The number at place i.
+    fn at(s: &[u8], i: usize) -> Self
+        requires { i + SIZE ≤ length s.now }
+        ensures { result ≡ of_number (number SIZE s.now i) };
+
+    // Writes the number at place i.
+    fn put(self, s: &mut [u8], i: usize)
+        requires { i + SIZE ≤ length s.old }
+        ensures { s.new ≡ sets s.old i (bytes SIZE (as_number self)) };
+
+    // Its number fits its bytes, and gives it back.
+    ghost read_back: { (x : Self) → IsWhole x → (as_number x < 256 ^ SIZE) × (of_number (as_number x) ≡ x) };
+}
+
+impl Stored for u32 {
+    ghost SIZE = { 4 };
+
+    ghost as_number = { λ x. x };
+
+    ghost of_number = { λ n. n };
+
+    ghost IsWhole = { λ x. x < 256 ^ 4 };
+
+    ghost read_back = { λ x h. (h, refl) };
+
+    const SIZE: usize = 4;
+
+    fn at(s: &[u8], i: usize) -> u32 {
+        u32::from_le_bytes([s[i], s[i + 1], s[i + 2], s[i + 3]])
+    }
+
+    fn put(self, s: &mut [u8], i: usize) {
+        let b = self.to_le_bytes();
+        s[i] = b[0];
+        s[i + 1] = b[1];
+        s[i + 2] = b[2];
+        s[i + 3] = b[3];
+    }
+}
+
+impl Stored for u64 {
+    ghost SIZE = { 8 };
+
+    ghost as_number = { λ x. x };
+
+    ghost of_number = { λ n. n };
+
+    ghost IsWhole = { λ x. x < 256 ^ 8 };
+
+    ghost read_back = { λ x h. (h, refl) };
+
+    const SIZE: usize = 8;
+
+    fn at(s: &[u8], i: usize) -> u64 {
+        u64::from(u32::at(s, i)) + 0x1_0000_0000 * u64::from(u32::at(s, i + 4))
+    }
+
+    fn put(self, s: &mut [u8], i: usize) {
+        ((self % 0x1_0000_0000) as u32).put(s, i);
+        ((self / 0x1_0000_0000) as u32).put(s, i + 4);
+    }
+}
+
+impl Stored for f64 {
+    ghost SIZE = { 8 };
+
+    ghost as_number = { to_bits binary64 };
+
+    ghost of_number = { of_bits binary64 };
+
+    ghost IsWhole = { λ x. T (fits binary64 x) };
+
+    ghost read_back = { double_back };
+
+    const SIZE: usize = 8;
+
+    fn at(s: &[u8], i: usize) -> f64 {
+        of_bits(u64::at(s, i))
+    }
+
+    fn put(self, s: &mut [u8], i: usize) {
+        to_bits(self).put(s, i);
+    }
+}
+
+// Reads as many numbers as xs holds, from place at on.
+pub fn read_all<T: Stored>(s: &[u8], at: usize, xs: &mut [T])
+    requires { at + T.SIZE * length xs.old ≤ length s.now }
+    ensures { xs.new ≡ map T.of_number (unpack T.SIZE (length xs.old) s.now at) }
 {
-    x as u32
+    for (i, x) in xs.iter_mut().enumerate() {
+        *x = T::at(s, at + T::SIZE * i);
+    }
+}
+
+// Writes the numbers xs from place at on.
+pub fn put_all<T: Stored>(s: &mut [u8], at: usize, xs: &[T])
+    requires { at + T.SIZE * length xs.now ≤ length s.old }
+    ensures { s.new ≡ sets s.old at (pack T.SIZE (map T.as_number xs.now)) }
+{
+    for (i, x) in xs.iter().enumerate() {
+        x.put(s, at + T::SIZE * i);
+    }
 }
 
 // The u32 at place i.
@@ -20,7 +134,7 @@ pub fn u32_at(s: &[u8], i: usize) -> u32
     requires { i + 4 ≤ length s.now }
     ensures { result ≡ number 4 s.now i }
 {
-    wide(s[i]) + 256 * (wide(s[i + 1]) + 256 * (wide(s[i + 2]) + 256 * wide(s[i + 3])))
+    u32::at(s, i)
 }
 
 // The u64 at place i.
@@ -28,7 +142,7 @@ pub fn u64_at(s: &[u8], i: usize) -> u64
     requires { i + 8 ≤ length s.now }
     ensures { result ≡ number 8 s.now i }
 {
-    (u32_at(s, i) as u64) + 0x1_0000_0000 * (u32_at(s, i + 4) as u64)
+    u64::at(s, i)
 }
 
 // The double at place i.
@@ -36,7 +150,7 @@ pub fn f64_at(s: &[u8], i: usize) -> f64
     requires { i + 8 ≤ length s.now }
     ensures { result ≡ of_bits binary64 (number 8 s.now i) }
 {
-    of_bits(u64_at(s, i))
+    f64::at(s, i)
 }
 
 // Writes x at place i.
@@ -44,10 +158,7 @@ pub fn put_u32(s: &mut [u8], i: usize, x: u32)
     requires { i + 4 ≤ length s.old }
     ensures { s.new ≡ sets s.old i (bytes 4 x) }
 {
-    s[i] = (x % 256) as u8;
-    s[i + 1] = (x / 256 % 256) as u8;
-    s[i + 2] = (x / 256 / 256 % 256) as u8;
-    s[i + 3] = (x / 256 / 256 / 256 % 256) as u8;
+    x.put(s, i);
 }
 
 // Writes x at place i.
@@ -55,8 +166,7 @@ pub fn put_u64(s: &mut [u8], i: usize, x: u64)
     requires { i + 8 ≤ length s.old }
     ensures { s.new ≡ sets s.old i (bytes 8 x) }
 {
-    put_u32(s, i, (x % 0x1_0000_0000) as u32);
-    put_u32(s, i + 4, (x / 0x1_0000_0000) as u32);
+    x.put(s, i);
 }
 
 // Writes x at place i.
@@ -64,7 +174,7 @@ pub fn put_f64(s: &mut [u8], i: usize, x: f64)
     requires { i + 8 ≤ length s.old }
     ensures { s.new ≡ sets s.old i (bytes 8 (to_bits binary64 x)) }
 {
-    put_u64(s, i, to_bits(x));
+    x.put(s, i);
 }
 
 // Writes the numbers xs from place at on.
@@ -72,11 +182,7 @@ pub fn put_u32s(s: &mut [u8], at: usize, xs: &[u32])
     requires { at + 4 * length xs.now ≤ length s.old }
     ensures { s.new ≡ sets s.old at (pack 4 xs.now) }
 {
-    let mut i = 0;
-    while i < xs.len() {
-        put_u32(s, at + 4 * i, xs[i]);
-        i += 1;
-    }
+    put_all(s, at, xs);
 }
 
 // Writes the doubles xs from place at on.
@@ -84,11 +190,7 @@ pub fn put_f64s(s: &mut [u8], at: usize, xs: &[f64])
     requires { at + 8 * length xs.now ≤ length s.old }
     ensures { s.new ≡ sets s.old at (pack 8 (bits xs.now)) }
 {
-    let mut i = 0;
-    while i < xs.len() {
-        put_f64(s, at + 8 * i, xs[i]);
-        i += 1;
-    }
+    put_all(s, at, xs);
 }
 
 // Writes n zeros from the front.
@@ -96,11 +198,7 @@ pub fn put_zeros(s: &mut [u8], n: usize)
     requires { n ≤ length s.old }
     ensures { s.new ≡ sets s.old 0 (replicate n 0) }
 {
-    let mut i = 0;
-    while i < n {
-        s[i] = 0;
-        i += 1;
-    }
+    s[..n].fill(0);
 }
 
 // Reads as many u32 as xs holds, from place at on.
@@ -108,11 +206,7 @@ pub fn read_u32s(s: &[u8], at: usize, xs: &mut [u32])
     requires { at + 4 * length xs.old ≤ length s.now }
     ensures { xs.new ≡ unpack 4 (length xs.old) s.now at }
 {
-    let mut i = 0;
-    while i < xs.len() {
-        xs[i] = u32_at(s, at + 4 * i);
-        i += 1;
-    }
+    read_all(s, at, xs);
 }
 
 // Reads as many doubles as xs holds, from place at on.
@@ -120,9 +214,5 @@ pub fn read_f64s(s: &[u8], at: usize, xs: &mut [f64])
     requires { at + 8 * length xs.old ≤ length s.now }
     ensures { xs.new ≡ doubles (unpack 8 (length xs.old) s.now at) }
 {
-    let mut i = 0;
-    while i < xs.len() {
-        xs[i] = f64_at(s, at + 8 * i);
-        i += 1;
-    }
+    read_all(s, at, xs);
 }

@@ -17,7 +17,7 @@ pub loop-i-init : goal.loop-i-init
 loop-i-init c =
     let f = c.args.faces.now in
     let o = c.args.order.now in
-    (omega arith, scan_start (length f) (reverse_occurs f o) (open_at f o))
+    scan_start (length f) (reverse_occurs f o) (open_at f o)
 
 pub has_reverse-requires : goal.has_reverse-requires
 has_reverse-requires c =
@@ -42,18 +42,16 @@ returns-then-not-has_reverse c =
     let f = c.args.faces.now in
     let o = c.args.order.now in
     ap₂ (λ (a b : ℕ). Refused (Open a b)) c.start.ensures c.end.ensures
-    ∙ scan_stop (length f) (reverse_occurs f o) (open_at f o) c.loop-i.i (omega (arith, size)) c.loop-i.invariant.1
+    ∙ scan_stop (length f) (reverse_occurs f o) (open_at f o) c.loop-i.i (omega (arith, size)) c.loop-i.invariant
     (sym c.has_reverse.ensures ∙ c.if-not-has_reverse.true)
     ∙ ap (λ (l : List ℕ). first_of (length f) (λ i. unless (reverse_occurs f l i) (open_at f l i))) c.requires.1
 
 pub loop-i-preserved : goal.loop-i-preserved
 loop-i-preserved c =
     let f = c.args.faces.now in
-    let o = c.args.order.now in (
-      omega arith,
-      scan_more (length f) (reverse_occurs f o) (open_at f o) c.loop-i.i c.loop-i.invariant.1
-          (sym c.has_reverse.ensures ∙ c.if-not-has_reverse.false),
-    )
+    let o = c.args.order.now in
+    scan_more (length f) (reverse_occurs f o) (open_at f o) c.loop-i.i c.loop-i.invariant
+    (sym c.has_reverse.ensures ∙ c.if-not-has_reverse.false)
 
 pub returns : goal.returns
 unfolding open_edge
@@ -61,7 +59,7 @@ returns c =
     let size : length c.args.order.now ≡ length c.args.faces.now = ap length c.requires.1 ∙ order-length c.args.faces.now in
     let f = c.args.faces.now in
     let o = c.args.order.now in
-    scan_end (length f) (reverse_occurs f o) (open_at f o) c.loop-i.i (omega (arith, size)) (omega (arith, size)) c.loop-i.invariant.1
+    scan_end (length f) (reverse_occurs f o) (open_at f o) c.loop-i.i (omega (arith, size)) (omega (arith, size)) c.loop-i.invariant
     ∙ ap (λ (l : List ℕ). first_of (length f) (λ i. unless (reverse_occurs f l i) (open_at f l i))) c.requires.1
 
 pub bounds-guesses-i : goal.bounds-guesses-i

@@ -15,27 +15,21 @@ returns-then-all_name_vertices c = sym (c.all_name_vertices.ensures c.if-all_nam
 pub loop-i-init : goal.loop-i-init
 loop-i-init c =
     let f = c.args.faces.now in
-    (omega arith, scan_start (length f) (names_vertex c.args.vertices f) (λ i. NoSuchVertex (i / 3)))
+    scan_start (length f) (names_vertex c.args.vertices f) (λ i. NoSuchVertex (i / 3))
 
-pub returns-then-vertices-faces : goal.returns-then-vertices-faces
+pub returns-then-vertices-v : goal.returns-then-vertices-v
 unfolding no_such_vertex
-returns-then-vertices-faces c =
+returns-then-vertices-v c =
     let f = c.args.faces.now in
-    scan_stop (length f) (names_vertex c.args.vertices f) (λ i. NoSuchVertex (i / 3)) c.loop-i.i (omega arith) c.loop-i.invariant.1 (le-ltb _ _ c.if-vertices-faces.true)
+    scan_stop (length f) (names_vertex c.args.vertices f) (λ i. NoSuchVertex (i / 3)) c.loop-i.i (omega arith) c.loop-i.invariant (le-ltb _ _ c.if-vertices-v.true)
 
 pub loop-i-preserved : goal.loop-i-preserved
 loop-i-preserved c =
     let f = c.args.faces.now in
-    (omega arith, scan_more (length f) (names_vertex c.args.vertices f) (λ i. NoSuchVertex (i / 3)) c.loop-i.i c.loop-i.invariant.1 (lt-ltb _ _ c.if-vertices-faces.false))
+    scan_more (length f) (names_vertex c.args.vertices f) (λ i. NoSuchVertex (i / 3)) c.loop-i.i c.loop-i.invariant (lt-ltb _ _ c.if-vertices-v.false)
 
 pub returns : goal.returns
 unfolding no_such_vertex
 returns c =
     let f = c.args.faces.now in
-    scan_end (length f) (names_vertex c.args.vertices f) (λ i. NoSuchVertex (i / 3)) c.loop-i.i (omega arith) (omega arith) c.loop-i.invariant.1
-
-pub all_name_vertices-requires : goal.all_name_vertices-requires
-all_name_vertices-requires c = tt
-
-pub overflow_cast-faces : goal.overflow_cast-faces
-overflow_cast-faces c = omega (arith, c.shared_slice_known-in-loop-i-1.given c.loop-i.i)
+    scan_end (length f) (names_vertex c.args.vertices f) (λ i. NoSuchVertex (i / 3)) c.loop-i.i (omega arith) (omega arith) c.loop-i.invariant

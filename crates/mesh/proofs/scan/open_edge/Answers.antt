@@ -8,6 +8,8 @@ use Rattle.lists.specs.CountingSort.{Placed}
 use Rattle.lists.proofs.Counting.{placed_below}
 use Rattle.mesh_orders.specs.Endpoint.{endpoint}
 use Rattle.mesh_orders.specs.Order.{Uses}
+use Rattle.mesh_orders.specs.EdgeLaws.{small-endpoint}
+use native.Mathlib.Omega.{arith}
 use Rattle.mesh_orders.specs.OrderLaws.{order-length, order-uses}
 use borrow.Author.Rules.{rules}
 use Rattle.mesh.proofs.scan.open_edge.Goals as goal
@@ -16,19 +18,30 @@ pub pass-requires : goal.pass-requires
 pass-requires c =
     let uses : Uses c.args.faces.now c.args.order.now = subst (Uses c.args.faces.now) (sym c.requires.1) (order-uses c.args.faces.now c.requires.0) in
     let size : length c.args.order.now ≡ length c.args.faces.now = ap length c.requires.1 ∙ order-length c.args.faces.now in
-    (record { uses = uses; size = size; inside = c.requires.2 }, c.requires.3 ∙ sym size)
+    record {
+      keys = record {
+        few = omega (arith, size, c.requires.0.few);
+        callable = λ i l. let n = uses.below i l in search rules;
+        key = endpoint true c.args.faces.now;
+        gives = λ u r p. search rules;
+        inside = λ i l. small-endpoint c.args.faces.now _ c.requires.2 (omega (arith, size)) true _;
+      };
+      room = c.requires.3 ∙ sym size;
+    }
 
 pub first_open-requires : goal.first_open-requires
 first_open-requires c =
     let uses : Uses c.args.faces.now c.args.order.now = subst (Uses c.args.faces.now) (sym c.requires.1) (order-uses c.args.faces.now c.requires.0) in
     let size : length c.args.order.now ≡ length c.args.faces.now = ap length c.requires.1 ∙ order-length c.args.faces.now in
-    let p = c.pass in
-    let f = c.args.faces.now in (
+    let f = c.args.faces.now in
+    let p : Placed (endpoint true f) c.args.order.now c.pass.new.out = c.pass.ensures (endpoint true f) (λ u r q. search rules) in (
       c.requires.0,
       c.requires.1,
-      record { faces = c.requires.0; below = placed_below (endpoint true f) c.args.order.now p.new.out p.ensures (length f) uses.below },
-      p.ensures.size ∙ size,
+      record { faces = c.requires.0; below = placed_below (endpoint true f) c.args.order.now c.pass.new.out p (length f) uses.below },
+      p.size ∙ size,
     )
 
-pub returns : goal.returns
-returns c = record { value = search rules; placed = subst (λ (l : List ℕ). Placed (endpoint true c.args.faces.now) l c.pass.new.out) c.requires.1 c.pass.ensures }
+pub returns-clause-placed : goal.returns-clause-placed
+returns-clause-placed c =
+    let f = c.args.faces.now in
+    subst (λ (l : List ℕ). Placed (endpoint true f) l c.pass.new.out) c.requires.1 (c.pass.ensures (endpoint true f) (λ u r q. search rules))

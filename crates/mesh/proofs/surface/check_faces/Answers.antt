@@ -14,7 +14,7 @@ pub loop-k-init : goal.loop-k-init
 loop-k-init c =
     let v = c.args.verts.now in
     let f = c.args.faces.now in
-    (omega arith, normals-start v f, sym (fold-none (add_face_volume v f) 0·0))
+    record { normals = normals-start v f; volume = sym (fold-none (add_face_volume v f) 0·0) }
 
 pub returns-then-is_zero : goal.returns-then-is_zero
 unfolding faces_cause
@@ -22,16 +22,16 @@ returns-then-is_zero c =
     let v = c.args.verts.now in
     let f = c.args.faces.now in
     ap (λ (d : Cause). solid_of (or_else d (inverted v f)) (volume v f))
-    (normals_stop v f c.loop-k.k (omega arith) c.loop-k.invariant.1 (ap is_zero (sym c.normal.ensures) ∙ sym c.is_zero.ensures ∙ c.if-is_zero.true))
+    (normals_stop v f c.loop-k.k (omega arith) c.loop-k.invariant.normals (ap is_zero (sym c.normal.ensures) ∙ sym c.is_zero.ensures ∙ c.if-is_zero.true))
 
 pub loop-k-preserved : goal.loop-k-preserved
 loop-k-preserved c =
     let v = c.args.verts.now in
-    let f = c.args.faces.now in (
-      omega arith,
-      normals-more v f c.loop-k.k c.loop-k.invariant.1 (ap is_zero (sym c.normal.ensures) ∙ sym c.is_zero.ensures ∙ c.if-is_zero.false),
-      rw fold_more (simp (c.face_volume-sum.ensures, c.loop-k.invariant.2)),
-    )
+    let f = c.args.faces.now in
+    record {
+      normals = normals-more v f c.loop-k.k c.loop-k.invariant.normals (ap is_zero (sym c.normal.ensures) ∙ sym c.is_zero.ensures ∙ c.if-is_zero.false);
+      volume = rw fold_more (simp (c.face_volume-sum.ensures, c.loop-k.invariant.volume));
+    }
 
 pub returns-then-sum : goal.returns-then-sum
 unfolding faces_cause inverted
@@ -39,7 +39,7 @@ returns-then-sum c =
     let l = c.loop-k in
     let v = c.args.verts.now in
     let f = c.args.faces.now in
-    simp (← normals-end v f l.k (omega arith) (omega arith) l.invariant.1, ← sum-end v f l.sum l.k (omega arith) (omega arith) l.invariant.2, c.if-sum.true)
+    simp (← normals-end v f l.k (omega arith) (omega arith) l.invariant.normals, ← sum-end v f l.sum l.k (omega arith) (omega arith) l.invariant.volume, c.if-sum.true)
 
 pub returns : goal.returns
 unfolding faces_cause inverted
@@ -47,7 +47,7 @@ returns c =
     let l = c.loop-k in
     let v = c.args.verts.now in
     let f = c.args.faces.now in
-    simp (← normals-end v f l.k (omega arith) (omega arith) l.invariant.1, ← sum-end v f l.sum l.k (omega arith) (omega arith) l.invariant.2, c.if-sum.false)
+    simp (← normals-end v f l.k (omega arith) (omega arith) l.invariant.normals, ← sum-end v f l.sum l.k (omega arith) (omega arith) l.invariant.volume, c.if-sum.false)
 
 pub normal-requires : goal.normal-requires
 normal-requires c = (c.requires, omega arith)

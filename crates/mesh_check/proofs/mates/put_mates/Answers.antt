@@ -1,5 +1,5 @@
 -- `mesh_check::mates::put_mates` meets its contract: so far, the mates of the first k uses of the order list are written. Assumes nothing.
-use mathlib.Core.Path.{◌≡◌, refl, sym, subst}
+use mathlib.Core.Path.{◌≡◌, sym, subst}
 use mathlib.Core.List.{List}
 use Prim.Native.Nat.{ℕ, ◌+◌, ◌*◌, ◌<◌}
 use native.Mathlib.Omega.{arith}
@@ -8,21 +8,18 @@ use Rattle.mesh_check.proofs.MatesPut.{PutSoFar, full, put-more, all-mates}
 use Rattle.mesh_check.proofs.mates.put_mates.Goals as goal
 
 pub loop-k-init : goal.loop-k-init
-loop-k-init c = (omega arith, refl, λ f q m j b jl bl. absurd (omega arith))
+loop-k-init c = λ f q m j b jl bl. absurd (omega arith)
 
 pub loop-k-preserved : goal.loop-k-preserved
 loop-k-preserved c =
     let lent : length c.args.out.now ≡ 4 * length c.args.order.now = full (length c.args.order.now) (length c.args.out.now) c.loop-k.k c.requires.2 (omega arith) in
     let o = c.args.order.now in
-    let p = c.args.partners.now in (
-      omega arith,
-      omega arith,
-      subst (λ (l : List ℕ). PutSoFar o p l (c.loop-k.k + 1)) (sym c.put_u32.ensures)
-          (put-more o p c.loop-k.out c.loop-k.k c.loop-k.invariant.2 (omega (arith, lent)) (omega (arith, lent))),
-    )
+    let p = c.args.partners.now in
+    subst (λ (l : List ℕ). PutSoFar o p l (c.loop-k.k + 1)) (sym c.put_u32.ensures)
+    (put-more o p c.loop-k.out c.loop-k.k c.loop-k.invariant (omega (arith, lent)) (omega (arith, lent)))
 
 pub returns : goal.returns
-returns c = all-mates c.args.order.now c.args.partners.now c.loop-k.out c.loop-k.k c.loop-k.invariant.2 c.args.out.now c.requires.2 (omega arith) (omega arith)
+returns c = all-mates c.args.order.now c.args.partners.now c.loop-k.out c.loop-k.k c.loop-k.invariant c.args.out.now c.requires.2 (omega arith) (omega arith)
 
 pub bounds-order-k : goal.bounds-order-k
 bounds-order-k c =

@@ -1,16 +1,47 @@
 -- `mesh_orders::mates::mate` meets its contract: the mate stands where the search ends, or nowhere. Assumes nothing.
 use mathlib.Core.Path.{◌≡◌, sym, ap, subst, ◌∙◌}
+use mathlib.Core.Bool.{true}
 use mathlib.Core.List.{List}
-use Prim.Native.Nat.{ℕ}
+use Prim.Native.Nat.{ℕ, ◌<◌, ◌≤◌}
 use native.Mathlib.Omega.{arith}
+use borrow.Author.Tests.{ltb-true}
 use lib.ListN.{length, get_or}
-use Rattle.lists.specs.Sort.{Sorted}
-use Rattle.lists.specs.Sort.{LowerBound}
-use Rattle.mesh_orders.specs.Edges.{edge, reverse}
+use lib.Dec.{ltb}
+use Rattle.std.proofs.lemmas.Grind.{get_or_default_zero}
+use Rattle.lists.specs.Sort.{Sorted, LowerBound}
+use Rattle.mesh_orders.specs.Edges.{edge, reverse, Faces}
 use Rattle.mesh_orders.specs.Order.{order_list, Uses}
 use Rattle.mesh_orders.specs.OrderLaws.{order-length, order-uses, order-edges}
+use Rattle.mesh_orders.specs.Mates.{mate}
 use Rattle.mesh_orders.specs.MateLaws.{search_found, search_none}
+use Rattle.mesh_orders.proofs.mates.mate.Goals.{in_default-via-in-Some+else-edge-e, in_default-via-in_default}
 use Rattle.mesh_orders.proofs.mates.mate.Goals as goal
+
+-- what `get` finds at place i
+found_at : (o : List ℕ) (i w : ℕ) → true ≡ ltb i (length o) → w ≡ get_or o i w → (i < length o) × (w ≡ get_or o i 0)
+found_at o i w t e = let l : i < length o = ltb-true i (length o) (sym t) in (l, e ∙ get_or_default_zero o i w l)
+
+module _ (f o : List ℕ) (u i e : ℕ) (h : Faces f) (is : o ≡ order_list f) (back : e ≡ reverse f u) (b : LowerBound (edge f) o e i) where
+  bound : LowerBound (edge f) (order_list f) (reverse f u) i
+  bound = subst (λ (x : ℕ). LowerBound (edge f) (order_list f) x i) back (subst (λ (l : List ℕ). LowerBound (edge f) l e i) is b)
+
+  size : length o ≡ length f
+  size = ap length is ∙ order-length f
+
+  found : (w : ℕ) → true ≡ ltb i (length o) → w ≡ get_or o i w → edge f w ≡ e → w ≡ mate f u
+  found w t g q =
+      let p = found_at o i w t g in
+      let same : w ≡ get_or (order_list f) i 0 = p.1 ∙ ap (λ (l : List ℕ). get_or l i 0) is in
+      same ∙ search_found f u h i bound (omega (arith, p.0, size)) (sym (ap (edge f) same) ∙ q ∙ back)
+
+  other : (w : ℕ) → true ≡ ltb i (length o) → w ≡ get_or o i w → (edge f w ≡ e → ⊥) → length f ≡ mate f u
+  other w t g q =
+      let p = found_at o i w t g in
+      let same : w ≡ get_or (order_list f) i 0 = p.1 ∙ ap (λ (l : List ℕ). get_or l i 0) is in
+      search_none f u h i bound (λ l z. q (ap (edge f) same ∙ z ∙ sym back))
+
+  past : length o ≤ i → length f ≡ mate f u
+  past n = search_none f u h i bound (λ l z. absurd (omega (arith, size)))
 
 pub reverse-e-requires : goal.reverse-e-requires
 reverse-e-requires c = (c.requires.0.triples, c.requires.2)
@@ -20,39 +51,27 @@ lower-i-requires c =
     let uses : Uses c.args.faces.now c.args.order.now = subst (Uses c.args.faces.now) (sym c.requires.1) (order-uses c.args.faces.now c.requires.0) in
     (uses, subst (Sorted (edge c.args.faces.now)) (sym c.requires.1) (order-edges c.args.faces.now c.requires.0))
 
-pub returns-then-order-i : goal.returns-then-order-i
-returns-then-order-i c =
-    let size : length c.args.order.now ≡ length c.args.faces.now = ap length c.requires.1 ∙ order-length c.args.faces.now in
-    let found : LowerBound (edge c.args.faces.now) (order_list c.args.faces.now) (reverse c.args.faces.now c.args.u) c.lower-i.result = let f = c.args.faces.now in
-    subst (λ (e : ℕ). LowerBound (edge f) (order_list f) e c.lower-i.result) c.reverse-e.ensures
-    (subst (λ (o : List ℕ). LowerBound (edge f) o c.reverse-e.result c.lower-i.result) c.requires.1 c.lower-i.ensures) in
-    search_none c.args.faces.now c.args.u c.requires.0 c.lower-i.result found (λ l e. omega (arith, c.if-order-i.true, size))
-
 pub edge-requires : goal.edge-requires
 edge-requires c =
     let uses : Uses c.args.faces.now c.args.order.now = subst (Uses c.args.faces.now) (sym c.requires.1) (order-uses c.args.faces.now c.requires.0) in
-    (c.requires.0.triples, uses.below _ (omega arith))
+    let g = c.in-Some.ensures.lookup in
+    let p = found_at c.args.order.now c.lower-i.result c.in-Some.field-0.now g.0 g.1 in
+    (c.requires.0.triples, omega (arith, p.1, uses.below _ p.0))
 
-pub returns-then-edge-e : goal.returns-then-edge-e
-returns-then-edge-e c =
-    let size : length c.args.order.now ≡ length c.args.faces.now = ap length c.requires.1 ∙ order-length c.args.faces.now in
-    let found : LowerBound (edge c.args.faces.now) (order_list c.args.faces.now) (reverse c.args.faces.now c.args.u) c.lower-i.result = let f = c.args.faces.now in
-    subst (λ (e : ℕ). LowerBound (edge f) (order_list f) e c.lower-i.result) c.reverse-e.ensures
-    (subst (λ (o : List ℕ). LowerBound (edge f) o c.reverse-e.result c.lower-i.result) c.requires.1 c.lower-i.ensures) in
-    let i = c.lower-i.result in
-    let f = c.args.faces.now in
-    let same : get_or c.args.order.now i 0 ≡ get_or (order_list f) i 0 = ap (λ (o : List ℕ). get_or o i 0) c.requires.1 in
-    same
-    ∙ search_found f c.args.u c.requires.0 i found (omega (arith, c.if-order-i.false, size))
-    (sym (ap (edge f) same) ∙ sym c.edge.ensures ∙ c.if-edge-e.true ∙ c.reverse-e.ensures)
+pub returns-in-Some : goal.returns-in-Some
+returns-in-Some c =
+    let g = c.in-Some.ensures.lookup in
+    found c.args.faces.now c.args.order.now c.args.u c.lower-i.result c.reverse-e.result c.requires.0 c.requires.1 c.reverse-e.ensures c.lower-i.ensures c.in-Some.field-0.now g.0 g.1
+    (sym c.edge.ensures ∙ c.if-edge-e.true)
 
-pub returns : goal.returns
-returns c =
-    let found : LowerBound (edge c.args.faces.now) (order_list c.args.faces.now) (reverse c.args.faces.now c.args.u) c.lower-i.result = let f = c.args.faces.now in
-    subst (λ (e : ℕ). LowerBound (edge f) (order_list f) e c.lower-i.result) c.reverse-e.ensures
-    (subst (λ (o : List ℕ). LowerBound (edge f) o c.reverse-e.result c.lower-i.result) c.requires.1 c.lower-i.ensures) in
-    let i = c.lower-i.result in
+pub returns-in_default : goal.returns-in_default
+returns-in_default c =
     let f = c.args.faces.now in
-    let same : get_or c.args.order.now i 0 ≡ get_or (order_list f) i 0 = ap (λ (o : List ℕ). get_or o i 0) c.requires.1 in
-    search_none f c.args.u c.requires.0 i found
-    (λ l e. c.if-edge-e.false (c.edge.ensures ∙ ap (edge f) same ∙ e ∙ sym c.reverse-e.ensures))
+    let o = c.args.order.now in
+    let i = c.lower-i.result in
+    let e = c.reverse-e.result in
+    elim c.in_default.branch [
+      | in_default-via-in-Some+else-edge-e w ↦ other f o c.args.u i e c.requires.0 c.requires.1 c.reverse-e.ensures c.lower-i.ensures w.in-Some.field-0.now w.in-Some.ensures.lookup.0 w.in-Some.ensures.lookup.1
+          (λ q. w.if-edge-e.false (w.edge.ensures ∙ q))
+      | in_default-via-in_default w ↦ past f o c.args.u i e c.requires.0 c.requires.1 c.reverse-e.ensures c.lower-i.ensures w.in_default.ensures.lookup.3
+    ]
