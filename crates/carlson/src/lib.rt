@@ -1,13 +1,13 @@
 // Carlson's R_C, and ln, atan and atan2 by it.
 #![tactic(auto)]
 
-ghost use Rattle.std.specs.Prelude.{◌≡◌, ◌*◌, ◌^◌, ◌<◌, T};
+ghost use Rattle.std.specs.Prelude.{◌≡◌, ℕ, ◌*◌, ◌^◌, ◌<◌, T};
 ghost use Rattle.std.specs.Float.{binary64};
 ghost use Rattle.std.specs.Float.Ieee.{of_int, minus};
 ghost use Rattle.std.specs.Float.Ieee.Positive.{positive};
 ghost use Rattle.roots.specs.Root.{Root};
 ghost use Rattle.carlson.specs.CarlsonLoop.{max_rounds, loop_test};
-ghost use Rattle.carlson.specs.Rounds.{rounds};
+ghost use Rattle.carlson.specs.Rounds.{rounds, Steps, Rounds};
 ghost use Rattle.carlson.specs.Answers.{integral_answer};
 ghost use Rattle.carlson.specs.Rc.{duplicate_c, test_c, series_c, rc_above, times_integral, rc, carlson_rc, rc_value};
 ghost use Rattle.carlson.specs.Logarithm.{ln_at, ln};
@@ -39,6 +39,24 @@ pub struct RoundC {
 pub enum Integral {
     Value(f64),
     Refused(Refusal),
+}
+
+// ---- Rounds
+
+// Steps from `start` while the test holds, at most `max`.
+pub fn repeat<S: Copy, T: Fn(S) -> bool, F: Fn(S) -> S>(max: u32, test: T, step: F, start: S) -> S
+    requires tests { T.IsAlwaysCallable test }
+    requires steps { (k : ℕ) (s : _) → k < max → Steps (F.post step) start k s → F.pre step s }
+    ensures { Rounds (T.post test) (F.post step) max start result }
+{
+    let mut s = start;
+    for _ in 0..max {
+        if !test(s) {
+            return s;
+        }
+        s = step(s);
+    }
+    s
 }
 
 // ---- R_C
@@ -80,14 +98,7 @@ fn repeat_c(q: f64, s: RoundC) -> RoundC
     requires { s.n ≡ 0 }
     ensures { result ≡ rounds (test_c q) duplicate_c max_rounds s }
 {
-    let mut t = s;
-    while t.n < MAX_ROUNDS {
-        if !loop_test(q, t.a, t.f) {
-            return t;
-        }
-        t = duplicate_c(t);
-    }
-    t
+    repeat(MAX_ROUNDS, |t| loop_test(q, t.a, t.f), duplicate_c, s)
 }
 
 // The series that ends R_C.

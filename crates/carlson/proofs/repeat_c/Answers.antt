@@ -1,29 +1,23 @@
--- `carlson::repeat_c` meets its contract. The rounds are counted in the state. Assumes nothing.
-use mathlib.Core.Path.{◌≡◌, ap}
-use Prim.Native.Nat.{◌+◌}
-use native.Mathlib.Omega.{arith}
+-- `carlson::repeat_c` meets its contract. Assumes nothing.
+use Rattle.std.proofs.Common.{◌≡◌, ℕ, ◌+◌, ap, ◌∙◌, rules, arith}
+use Rattle.carlson.specs.Rounds.{Steps}
+use Rattle.carlson.specs.Rounds.Steps.{none, one_more}
 use Rattle.carlson.specs.Rc.{duplicate_c}
 use Rattle.carlson.specs.declared.RoundC.{RoundC}
-use Rattle.carlson.proofs.RoundLoop.{none_yet, tested, one-round, all_made}
-use mathlib.Core.Bool.{not}
-use mathlib.Core.Path.{ap}
+use Rattle.carlson.proofs.RoundLoop.{computed}
 use Rattle.carlson.proofs.repeat_c.Goals as goal
 
-next : (s r : RoundC) → r ≡ duplicate_c s → r.n ≡ s.n + 1
+next : (s : RoundC) → (duplicate_c s).n ≡ s.n + 1
 unfolding duplicate_c
-next s r e = ap (λ (d : RoundC). d.n) e
+next s = omega arith
 
-pub loop-t-init : goal.loop-t-init
-loop-t-init c = rw c.requires none_yet
+-- n counts the steps
+counted : {step : RoundC → RoundC → Type 0} {s : RoundC} → ((s r : RoundC) → step s r → r ≡ duplicate_c s) → {k : ℕ} {t : RoundC} → Steps step s k t → t.n ≡ s.n + k
+counted steps none = omega arith
+counted steps (one_more {n} {t} {u} h q) = let e = ap (λ (d : RoundC). d.n) (steps t u q) ∙ next t in let i = counted steps h in omega arith
 
-pub returns-then-not-loop_test : goal.returns-then-not-loop_test
-returns-then-not-loop_test c = tested c.loop-t.invariant c.loop_test.ensures (ap not c.if-not-loop_test.true)
-
-pub loop-t-smaller : goal.loop-t-smaller
-loop-t-smaller c = let e = next _ _ c.duplicate_c-t.ensures in omega arith
-
-pub loop-t-preserved : goal.loop-t-preserved
-loop-t-preserved c = one-round c.loop-t.invariant (omega arith) c.loop_test.ensures (ap not c.if-not-loop_test.false) c.duplicate_c-t.ensures (next _ _ c.duplicate_c-t.ensures)
+pub repeat-requires-clause-steps : goal.repeat-requires-clause-steps
+repeat-requires-clause-steps c = λ k s less h. let i = counted (λ s r p. p) h in omega arith
 
 pub returns : goal.returns
-returns c = all_made c.loop-t.invariant (omega arith)
+returns c = computed c.repeat.ensures (λ s b p. search rules) (λ s r p. search rules)
