@@ -93,14 +93,6 @@ fn duplicate_c(s: RoundC) -> RoundC
     }
 }
 
-// Duplications while the loop's test holds, at most MAX_ROUNDS.
-fn repeat_c(q: f64, s: RoundC) -> RoundC
-    requires { s.n ≡ 0 }
-    ensures { result ≡ rounds (test_c q) duplicate_c max_rounds s }
-{
-    repeat(MAX_ROUNDS, |t| loop_test(q, t.a, t.f), duplicate_c, s)
-}
-
 // The series that ends R_C.
 pub fn series_c(s: f64) -> f64
     ensures { result ≡ series_c s }
@@ -118,16 +110,14 @@ fn rc_above(x: f64, y: f64) -> Integral
 {
     let a0 = (x + 2.0 * y) / 3.0;
     let q = RC_FACTOR * doubles::abs(a0 - x);
-    let s = repeat_c(
-        q,
-        RoundC {
-            x,
-            y,
-            a: a0,
-            f: 1.0,
-            n: 0,
-        },
-    );
+    let first = RoundC {
+        x,
+        y,
+        a: a0,
+        f: 1.0,
+        n: 0,
+    };
+    let s = repeat(MAX_ROUNDS, |t| loop_test(q, t.a, t.f), duplicate_c, first);
     if loop_test(q, s.a, s.f) {
         return Integral::Refused(Refusal::TooManyRounds);
     }

@@ -8,5 +8,5 @@ invariant-loop g l = record {
   within : l.counter ≤ l.fn.max;
   made : Steps (goal.F-post g l.fn.step) l.fn.start l.counter l.s;
   left : (t : _) → Rounds (goal.T-post g l.fn.test) (goal.F-post g l.fn.step) (l.fn.max - l.counter) l.s t
-  → Rounds (goal.T-post g l.fn.test) (goal.F-post g l.fn.step) l.fn.max l.fn.start t;
+      → Rounds (goal.T-post g l.fn.test) (goal.F-post g l.fn.step) l.fn.max l.fn.start t;
 }
