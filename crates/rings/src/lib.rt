@@ -2,10 +2,9 @@
 #![tactic(auto)]
 
 ghost use Rattle.std.specs.Prelude.{◌≡◌};
-ghost use Rattle.carlson.specs.Rounds.{rounds};
 ghost use Rattle.carlson.specs.Answers.{integral_answer};
 ghost use Rattle.rings.specs.Answers.{complete_answer, ring_answer};
-ghost use Rattle.rings.specs.Elliptic.{max_means, next_mean, mean_test, elliptic, complete_elliptic};
+ghost use Rattle.rings.specs.Elliptic.{next_mean, mean_test, elliptic, complete_elliptic};
 ghost use Rattle.rings.specs.Cel.{four_finite, cel};
 ghost use Rattle.rings.specs.Ring.{far_squared, near_squared, ring_parameter, near_axis, off_axis, ∂ρ, ring_at, ring_within_limits, ring};
 
@@ -75,35 +74,20 @@ fn mean_test(s: Mean) -> bool
     !(s.c <= doubles::EPSILON * s.a)
 }
 
-// Rounds of the mean while its test holds, at most MAX_MEANS.
-fn repeat_mean(s: Mean) -> Mean
-    ensures { result ≡ rounds mean_test next_mean max_means s }
-{
-    let mut t = s;
-    let mut n: u32 = 0;
-    while n < MAX_MEANS {
-        if !mean_test(t) {
-            return t;
-        }
-        t = next_mean(t);
-        n += 1;
-    }
-    t
-}
-
 // K and E without the tests of their domain: what inner calls use.
 pub fn elliptic(m: f64) -> Complete
     ensures { result ≡ elliptic m }
 {
     let b = roots::root(1.0 - m);
     let c = roots::root(m);
-    let s = repeat_mean(Mean {
+    let first = Mean {
         a: 1.0,
         b,
         c,
         sum: 0.5 * m,
         weight: 0.5,
-    });
+    };
+    let s = carlson::repeat(MAX_MEANS, mean_test, next_mean, first);
     let k = doubles::FRAC_PI_2 / s.a;
     Complete {
         k,
