@@ -9,7 +9,8 @@ use anomaly::{VectorAnswer, body_of, both_within_limits};
 use newtonian::{Hessian, Vector, diagonal};
 use refusals::Refusal;
 
-// A row of k (3 d dᵀ - r² I), where e is the row of r² I.
+// A row of k (3 d dᵀ - r² I), where e is the row of r² I. The cylinder's rows multiply by r² here, in another order of
+// roundings, so they have a function of their own.
 fn dipole_row(k: f64, di: f64, d: Vector, e: Vector) -> Vector
     ensures { result ≡ dipole_row k di d e }
 {

@@ -15,6 +15,7 @@ pub struct Row {
     pub right: f64,
 }
 
+// Three names and no array: the definitions name the rows, and an index is a goal wherever it stands.
 #[derive(Clone, Copy)]
 pub struct Rows {
     pub first: Row,
