@@ -37,10 +37,9 @@ pub fn both_within_limits(a: Vector, b: Vector) -> bool
 pub fn hessian_within_limits(hessian: Hessian) -> bool
     ensures { result ≡ hessian_within_limits hessian }
 {
-    let x = hessian.x;
-    let y = hessian.y;
-    let z = hessian.z;
-    vector_within_limits(x) & vector_within_limits(y) & vector_within_limits(z)
+    vector_within_limits(hessian.x)
+        & vector_within_limits(hessian.y)
+        & vector_within_limits(hessian.z)
 }
 
 // ---- any body
@@ -64,13 +63,10 @@ pub fn body_of(mu: f64, hessian: Hessian, magnetisation: Vector) -> Vector
 {
     let m = magnetisation;
     let t = trace(hessian);
-    let x = hessian.x;
-    let y = hessian.y;
-    let z = hessian.z;
     Vector {
-        x: mu * (row_times(x, m) - t * m.x),
-        y: mu * (row_times(y, m) - t * m.y),
-        z: mu * (row_times(z, m) - t * m.z),
+        x: mu * (row_times(hessian.x, m) - t * m.x),
+        y: mu * (row_times(hessian.y, m) - t * m.y),
+        z: mu * (row_times(hessian.z, m) - t * m.z),
     }
 }
 

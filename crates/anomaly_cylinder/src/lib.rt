@@ -36,26 +36,22 @@ fn projector(u: Vector) -> Hessian
     ensures { result ≡ projector u }
 {
     let e = diagonal(1.0);
-    let ex = e.x;
-    let ey = e.y;
-    let ez = e.z;
-    let x = minus_times(ex, u.x, u);
-    let y = minus_times(ey, u.y, u);
-    let z = minus_times(ez, u.z, u);
-    Hessian { x, y, z }
+    Hessian {
+        x: minus_times(e.x, u.x, u),
+        y: minus_times(e.y, u.y, u),
+        z: minus_times(e.z, u.z, u),
+    }
 }
 
 fn cylinder_inside(across: Hessian) -> Hessian
     ensures { result ≡ cylinder_inside across }
 {
     let k = -2.0 * doubles::PI;
-    let ex = across.x;
-    let ey = across.y;
-    let ez = across.z;
-    let x = times_vector(k, ex);
-    let y = times_vector(k, ey);
-    let z = times_vector(k, ez);
-    Hessian { x, y, z }
+    Hessian {
+        x: times_vector(k, across.x),
+        y: times_vector(k, across.y),
+        z: times_vector(k, across.z),
+    }
 }
 
 // A row of k (2 ρ ρᵀ - r² P), where e is the row of the projector P.
@@ -73,13 +69,11 @@ fn cylinder_outside(a: f64, rho: Vector, r2: f64, across: Hessian) -> Hessian
     ensures { result ≡ cylinder_outside a rho r2 across }
 {
     let k = 2.0 * doubles::PI * a * a / (r2 * r2);
-    let ex = across.x;
-    let ey = across.y;
-    let ez = across.z;
-    let x = line_row(k, rho.x, rho, r2, ex);
-    let y = line_row(k, rho.y, rho, r2, ey);
-    let z = line_row(k, rho.z, rho, r2, ez);
-    Hessian { x, y, z }
+    Hessian {
+        x: line_row(k, rho.x, rho, r2, across.x),
+        y: line_row(k, rho.y, rho, r2, across.y),
+        z: line_row(k, rho.z, rho, r2, across.z),
+    }
 }
 
 fn cylinder_hessian(a: f64, rho: Vector, across: Hessian) -> Hessian

@@ -9,7 +9,8 @@ use anomaly::{VectorAnswer, body_of, both_within_limits};
 use newtonian::{Hessian, Vector, diagonal};
 use refusals::Refusal;
 
-// A row of k (3 d dᵀ - r² I), where e is the row of r² I.
+// A row of k (3 d dᵀ - r² I), where e is the row of r² I. The cylinder's rows multiply by r² here, in another order of
+// roundings, so they have a function of their own.
 fn dipole_row(k: f64, di: f64, d: Vector, e: Vector) -> Vector
     ensures { result ≡ dipole_row k di d e }
 {
@@ -25,13 +26,11 @@ fn sphere_outside(a: f64, d: Vector, r2: f64) -> Hessian
 {
     let k = 4.0 * doubles::PI * (a * a * a) / (3.0 * r2 * r2 * roots::root(r2));
     let e = diagonal(r2);
-    let ex = e.x;
-    let ey = e.y;
-    let ez = e.z;
-    let x = dipole_row(k, d.x, d, ex);
-    let y = dipole_row(k, d.y, d, ey);
-    let z = dipole_row(k, d.z, d, ez);
-    Hessian { x, y, z }
+    Hessian {
+        x: dipole_row(k, d.x, d, e.x),
+        y: dipole_row(k, d.y, d, e.y),
+        z: dipole_row(k, d.z, d, e.z),
+    }
 }
 
 fn sphere_hessian(a: f64, d: Vector) -> Hessian

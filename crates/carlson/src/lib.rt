@@ -1,13 +1,13 @@
 // Carlson's R_C, and ln, atan and atan2 by it.
 #![tactic(auto)]
 
-ghost use Rattle.std.specs.Prelude.{◌≡◌, ◌*◌, ◌^◌, ◌<◌, T};
+ghost use Rattle.std.specs.Prelude.{◌≡◌, ℕ, ◌*◌, ◌^◌, ◌<◌, T};
 ghost use Rattle.std.specs.Float.{binary64};
 ghost use Rattle.std.specs.Float.Ieee.{of_int, minus};
 ghost use Rattle.std.specs.Float.Ieee.Positive.{positive};
 ghost use Rattle.roots.specs.Root.{Root};
 ghost use Rattle.carlson.specs.CarlsonLoop.{max_rounds, loop_test};
-ghost use Rattle.carlson.specs.Rounds.{rounds};
+ghost use Rattle.carlson.specs.Rounds.{rounds, Steps, Rounds};
 ghost use Rattle.carlson.specs.Answers.{integral_answer};
 ghost use Rattle.carlson.specs.Rc.{duplicate_c, test_c, series_c, rc_above, times_integral, rc, carlson_rc, rc_value};
 ghost use Rattle.carlson.specs.Logarithm.{ln_at, ln};
@@ -39,6 +39,24 @@ pub struct RoundC {
 pub enum Integral {
     Value(f64),
     Refused(Refusal),
+}
+
+// ---- Rounds
+
+// Steps from `start` while the test holds, at most `max`.
+pub fn repeat<S: Copy, T: Fn(S) -> bool, F: Fn(S) -> S>(max: u32, test: T, step: F, start: S) -> S
+    requires tests { T.IsAlwaysCallable test }
+    requires steps { (k : ℕ) (s : _) → k < max → Steps (F.post step) start k s → F.pre step s }
+    ensures { Rounds (T.post test) (F.post step) max start result }
+{
+    let mut s = start;
+    for _ in 0..max {
+        if !test(s) {
+            return s;
+        }
+        s = step(s);
+    }
+    s
 }
 
 // ---- R_C
@@ -75,21 +93,6 @@ fn duplicate_c(s: RoundC) -> RoundC
     }
 }
 
-// Duplications while the loop's test holds, at most MAX_ROUNDS.
-fn repeat_c(q: f64, s: RoundC) -> RoundC
-    requires { s.n ≡ 0 }
-    ensures { result ≡ rounds (test_c q) duplicate_c max_rounds s }
-{
-    let mut t = s;
-    while t.n < MAX_ROUNDS {
-        if !loop_test(q, t.a, t.f) {
-            return t;
-        }
-        t = duplicate_c(t);
-    }
-    t
-}
-
 // The series that ends R_C.
 pub fn series_c(s: f64) -> f64
     ensures { result ≡ series_c s }
@@ -107,16 +110,14 @@ fn rc_above(x: f64, y: f64) -> Integral
 {
     let a0 = (x + 2.0 * y) / 3.0;
     let q = RC_FACTOR * doubles::abs(a0 - x);
-    let s = repeat_c(
-        q,
-        RoundC {
-            x,
-            y,
-            a: a0,
-            f: 1.0,
-            n: 0,
-        },
-    );
+    let first = RoundC {
+        x,
+        y,
+        a: a0,
+        f: 1.0,
+        n: 0,
+    };
+    let s = repeat(MAX_ROUNDS, |t| loop_test(q, t.a, t.f), duplicate_c, first);
     if loop_test(q, s.a, s.f) {
         return Integral::Refused(Refusal::TooManyRounds);
     }

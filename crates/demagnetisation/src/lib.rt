@@ -84,16 +84,11 @@ pub fn magnetisation_of(chi: f64, h0: Vector, remanent: Vector, n: Hessian) -> V
     ensures { result ≡ magnetisation_of chi h0 remanent n }
 {
     let e = newtonian::diagonal(1.0);
-    let ex = e.x;
-    let ey = e.y;
-    let ez = e.z;
-    let nx = n.x;
-    let ny = n.y;
-    let nz = n.z;
-    let p = equation(chi, ex, nx, h0.x, remanent.x);
-    let q = equation(chi, ey, ny, h0.y, remanent.y);
-    let r = equation(chi, ez, nz, h0.z, remanent.z);
-    linalg::gauss(linalg::rows_of(p, q, r))
+    linalg::gauss(linalg::rows_of(
+        equation(chi, e.x, n.x, h0.x, remanent.x),
+        equation(chi, e.y, n.y, h0.y, remanent.y),
+        equation(chi, e.z, n.z, h0.z, remanent.z),
+    ))
 }
 
 fn magnetisation_within_limits(chi: f64, h0: Vector, remanent: Vector, n: Hessian) -> bool

@@ -4,13 +4,13 @@ use mathlib.Core.Path.{◌≡◌, refl, sym, ap, ◌∙◌, subst}
 use Prim.Native.Nat.{ℕ, zero, suc, ◌+◌, ◌-◌, ◌*◌, ◌/◌, ◌%◌, ◌^◌, ◌≤◌, ◌<◌}
 use native.Mathlib.Nat.{lt_of_lt_of_le, lt_irrefl, zero-lt-suc, mul-one, mul_left_comm, div-one, pow-succ', div-div-eq-div-mul, mod-eq_of_lt, le_antisymm, lt_of_not-le, not-le_of_lt, div-lt_iff_lt-mul, pow-suc}
 use native.Mathlib.Omega.{arith}
-use mathlib.Core.Bool.{Bool, true, false, not, cond, true≢false}
+use mathlib.Core.Bool.{Bool, true, false, not, cond}
 use lib.Dec.{T, leb, ltb, eqb, leb→le, nleb→lt, eqb→eq, not_T, ltb→lt, nltb→le, lt→ltb}
 use lib.Pow.{pow_mono, shl_lt}
 use lib.Count.{count_trailing_zeros, under}
-use lib.Ieee.{Float, nan, inf, fin, binary64, minus, size, odd, units, is_nan, of_fields, of_bits, nan_bits}
+use lib.Ieee.{nan, inf, fin, binary64, minus, size, odd, units, of_fields, of_bits, nan_bits}
 use lib.Ieee.Digits.{size-lt, size-le}
-use lib.Ieee.Bits.{is_false, is_true, nan_bits_above, nan_bits_is}
+use lib.Ieee.Bits.{is_false, nan_bits_above}
 use lib.Ieee.Positive.{positive}
 
 -- ---- `odd` divides the closing zeros out
@@ -123,15 +123,6 @@ number-bits b h = rw (nan_bits_above binary64 b) (not_T (ltb (2047 * 2 ^ 52) (b 
 
 pub no_nan : (b : ℕ) → b ≤ 2047 * 2 ^ 52 → T (not (nan_bits binary64 b))
 no_nan b h = number-bits b (omega arith)
-
--- and all others
-pub nan-bits : (b : ℕ) → 2047 * 2 ^ 52 < b % 2 ^ 63 → of_bits binary64 b ≡ nan
-nan-bits b h = named (of_bits binary64 b) (sym (nan_bits_is binary64 b) ∙ nan_bits_above binary64 b ∙ is_true (ltb (2047 * 2 ^ 52) (b % 2 ^ 63)) (lt→ltb (2047 * 2 ^ 52) (b % 2 ^ 63) h))
-  where
-    named : (x : Float) → is_nan x ≡ true → x ≡ nan
-    named nan e = refl
-    named (inf s) e = unfold is_nan in absurd (true≢false (sym e))
-    named (fin s m d) e = unfold is_nan in absurd (true≢false (sym e))
 
 -- ---- patterns with the sign clear, below an infinity's
 

@@ -1,14 +1,14 @@
--- The sign's bit of a pattern: |x| is x with it cleared, and x is negative where it is set. Assumes nothing.
+-- The sign's bit of a pattern: |x| is x with it cleared. Assumes nothing.
 use mathlib.Core.Path.{◌≡◌, refl, sym, ap, ◌∙◌, subst}
-use Prim.Native.Nat.{ℕ, zero, suc, ◌+◌, ◌%◌, ◌^◌, ◌≤◌, ◌<◌}
+use Prim.Native.Nat.{ℕ, zero, suc, ◌+◌, ◌%◌, ◌^◌, ◌<◌}
 use native.Mathlib.Omega.{arith}
 use mathlib.Core.Bool.{Bool, true, false, not}
-use lib.Dec.{T, leb, not_T, leb→le, le→leb}
+use lib.Dec.{T}
 use lib.IntN.{ℤ}
 use lib.Bits.{bit_and, and_mask}
 use lib.Ieee.{Float, nan, inf, fin, binary64, fits, is_nan, nan_bits, of_bits, to_bits}
-use lib.Ieee.Bits.{of_bits-to_bits, to_bits-lt, nan_bits_is, is_true, is_false}
-use Rattle.doubles.specs.Magnitude.{abs, negative}
+use lib.Ieee.Bits.{of_bits-to_bits, to_bits-lt, nan_bits_is}
+use Rattle.doubles.specs.Magnitude.{abs}
 
 fits_sign : (s t : Bool) (m : ℕ) (e : ℤ) → T (fits binary64 (fin s m e)) → T (fits binary64 (fin t m e))
 unfolding fits
@@ -21,8 +21,6 @@ with-sign m e = omega arith
 
 unsigned-lt : (s : Bool) (m : ℕ) (e : ℤ) → T (fits binary64 (fin s m e)) → to_bits binary64 (fin false m e) < 2 ^ 63
 unsigned-lt s m e h = let a = to_bits-lt binary64 (fin true m e) (fits_sign s true m e h) in let b = with-sign m e in omega arith
-
--- ---- the bit cleared
 
 rest : (x : Float) → T (not (is_nan x)) → T (fits binary64 x) → to_bits binary64 x % 2 ^ 63 ≡ to_bits binary64 (abs x)
 unfolding is_nan abs to_bits
@@ -50,22 +48,3 @@ abs-bits x n h = ap (of_bits binary64) (and_mask (to_bits binary64 x) 63 ∙ res
 
 pub abs_no_nan : (x : Float) → T (not (is_nan x)) → T (fits binary64 x) → T (not (nan_bits binary64 (bit_and (to_bits binary64 x) 0x7fff_ffff_ffff_ffff)))
 abs_no_nan x n h = subst (λ (b : Bool). T (not b)) (sym (nan_bits_is binary64 _ ∙ ap is_nan (abs-bits x n h))) (abs-number x n)
-
--- ---- the bit as a test
-
-at_least : (a b : ℕ) → a ≤ b → leb a b ≡ true
-at_least a b h = is_true (leb a b) (le→leb a b h)
-
-less : (a b : ℕ) → b < a → leb a b ≡ false
-less a b h = is_false (leb a b) (not_T (leb a b) (λ (t : T (leb a b)). no (leb→le a b t)))
-  where
-    no : a ≤ b → ⊥
-    no k = omega arith
-
-pub sign_bit : (x : Float) → T (not (is_nan x)) → T (fits binary64 x) → leb (2 ^ 63) (to_bits binary64 x) ≡ negative x
-unfolding is_nan negative to_bits
-sign_bit nan n h = absurd n
-sign_bit (inf true) n h = refl
-sign_bit (inf false) n h = refl
-sign_bit (fin true m e) n h = let b = with-sign m e in at_least (2 ^ 63) (to_bits binary64 (fin true m e)) (omega arith)
-sign_bit (fin false m e) n h = less (2 ^ 63) (to_bits binary64 (fin false m e)) (unsigned-lt false m e h)

@@ -32,10 +32,8 @@ fn padded(t: &[u64; ENTRIES], start: usize, n: usize) -> [f64; MAX_ORDER]
     ensures { result ≡ padded n (λ i. entry (start + i)) }
 {
     let mut r = [0.0; MAX_ORDER];
-    let mut i = 0;
-    while i < n {
+    for i in 0..n {
         r[i] = f64::from_bits(t[start + i]);
-        i += 1;
     }
     r
 }

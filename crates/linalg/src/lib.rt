@@ -15,6 +15,7 @@ pub struct Row {
     pub right: f64,
 }
 
+// Three names and no array: the definitions name the rows, and an index is a goal wherever it stands.
 #[derive(Clone, Copy)]
 pub struct Rows {
     pub first: Row,
@@ -36,18 +37,17 @@ pub fn rows_of(p: Row, q: Row, r: Row) -> Rows
 fn takes(u: f64, v: f64) -> bool
     ensures { result ≡ takes u v }
 {
-    if v != v {
-        return true;
-    }
-    doubles::abs(u) <= doubles::abs(v)
+    v.is_nan() | (doubles::abs(u) <= doubles::abs(v))
 }
 
 fn pivot_x(s: Rows) -> Rows
     ensures { result ≡ pivot_x s }
 {
-    let p = s.first;
-    let q = s.second;
-    let r = s.third;
+    let Rows {
+        first: p,
+        second: q,
+        third: r,
+    } = s;
     if takes(p.x, q.x) {
         if takes(q.x, r.x) {
             return rows_of(r, q, p);
@@ -63,9 +63,11 @@ fn pivot_x(s: Rows) -> Rows
 fn pivot_y(s: Rows) -> Rows
     ensures { result ≡ pivot_y s }
 {
-    let p = s.first;
-    let q = s.second;
-    let r = s.third;
+    let Rows {
+        first: p,
+        second: q,
+        third: r,
+    } = s;
     if takes(q.y, r.y) {
         return rows_of(p, r, q);
     }
@@ -89,28 +91,32 @@ fn without_y(q: Row, p: Row) -> Row
 {
     let f = q.y / p.y;
     Row {
-        x: q.x,
         y: q.y - f * p.y,
         z: q.z - f * p.z,
         right: q.right - f * p.right,
+        ..q
     }
 }
 
 fn eliminate_x(s: Rows) -> Rows
     ensures { result ≡ eliminate_x s }
 {
-    let p = s.first;
-    let q = s.second;
-    let r = s.third;
+    let Rows {
+        first: p,
+        second: q,
+        third: r,
+    } = s;
     rows_of(p, without_x(q, p), without_x(r, p))
 }
 
 fn eliminate_y(s: Rows) -> Rows
     ensures { result ≡ eliminate_y s }
 {
-    let p = s.first;
-    let q = s.second;
-    let r = s.third;
+    let Rows {
+        first: p,
+        second: q,
+        third: r,
+    } = s;
     rows_of(p, q, without_y(r, q))
 }
 

@@ -2,10 +2,9 @@
 #![tactic(auto)]
 
 ghost use Rattle.std.specs.Prelude.{◌≡◌};
-ghost use Rattle.carlson.specs.Rounds.{rounds};
 ghost use Rattle.carlson.specs.Answers.{integral_answer};
 ghost use Rattle.rings.specs.Answers.{complete_answer, ring_answer};
-ghost use Rattle.rings.specs.Elliptic.{max_means, next_mean, mean_test, elliptic, complete_elliptic};
+ghost use Rattle.rings.specs.Elliptic.{next_mean, mean_test, elliptic, complete_elliptic};
 ghost use Rattle.rings.specs.Cel.{four_finite, cel};
 ghost use Rattle.rings.specs.Ring.{far_squared, near_squared, ring_parameter, near_axis, off_axis, ∂ρ, ring_at, ring_within_limits, ring};
 
@@ -75,35 +74,20 @@ fn mean_test(s: Mean) -> bool
     !(s.c <= doubles::EPSILON * s.a)
 }
 
-// Rounds of the mean while its test holds, at most MAX_MEANS.
-fn repeat_mean(s: Mean) -> Mean
-    ensures { result ≡ rounds mean_test next_mean max_means s }
-{
-    let mut t = s;
-    let mut n: u32 = 0;
-    while n < MAX_MEANS {
-        if !mean_test(t) {
-            return t;
-        }
-        t = next_mean(t);
-        n += 1;
-    }
-    t
-}
-
 // K and E without the tests of their domain: what inner calls use.
 pub fn elliptic(m: f64) -> Complete
     ensures { result ≡ elliptic m }
 {
     let b = roots::root(1.0 - m);
     let c = roots::root(m);
-    let s = repeat_mean(Mean {
+    let first = Mean {
         a: 1.0,
         b,
         c,
         sum: 0.5 * m,
         weight: 0.5,
-    });
+    };
+    let s = carlson::repeat(MAX_MEANS, mean_test, next_mean, first);
     let k = doubles::FRAC_PI_2 / s.a;
     Complete {
         k,
@@ -154,41 +138,70 @@ fn near_axis(radius: f64, rho: f64, z: f64) -> f64
             / (u * u * (u * u) * w)
 }
 
-// The derivative by ρ elsewhere.
-fn off_axis(radius: f64, rho: f64, z: f64, s: f64, d: f64) -> f64
-    requires { (s ≡ far_squared radius rho z) × (d ≡ near_squared radius rho z) }
-    ensures { result ≡ off_axis radius rho z }
-{
-    let kc = roots::root(d / s); // √(1 - m), without the subtraction near the wire
-    let w = roots::root(s);
-    -2.0 / (doubles::PI * (s * w))
-        * special_bulirsch::cel_of(kc, kc * kc, rho + radius, rho - radius)
+// A ring and a station (ρ, z): s and d are the squares of the distances to the ring's farthest and nearest points,
+// and m = 4Rρ/s.
+#[derive(Clone, Copy)]
+struct RingStation {
+    radius: f64,
+    rho: f64,
+    z: f64,
+    s: f64,
+    d: f64,
+    m: f64,
+    ghost farthest: { s ≡ far_squared radius rho z },
+    ghost nearest: { d ≡ near_squared radius rho z },
+    ghost parameter: { m ≡ ring_parameter radius rho z },
 }
 
-// The derivative by ρ.
-fn by_rho(radius: f64, rho: f64, z: f64, s: f64, d: f64) -> f64
-    requires { (s ≡ far_squared radius rho z) × (d ≡ near_squared radius rho z) }
-    ensures { result ≡ ∂ρ radius rho z }
-{
-    if rho == 0.0 {
-        return 0.0;
+impl RingStation {
+    fn new(radius: f64, rho: f64, z: f64) -> Self
+        ensures { (result.radius ≡ radius) × (result.rho ≡ rho) × (result.z ≡ z) }
+    {
+        let s = (radius + rho) * (radius + rho) + z * z;
+        RingStation {
+            radius,
+            rho,
+            z,
+            s,
+            d: (radius - rho) * (radius - rho) + z * z,
+            m: 4.0 * radius * rho / s,
+        }
     }
-    if rho * rho < 9e-8 * (radius * radius + z * z) {
-        return near_axis(radius, rho, z);
-    }
-    off_axis(radius, rho, z, s, d)
-}
 
-fn ring_at(radius: f64, rho: f64, z: f64, s: f64, d: f64, m: f64) -> RingAverage
-    requires { (s ≡ far_squared radius rho z) × (d ≡ near_squared radius rho z) × (m ≡ ring_parameter radius rho z) }
-    ensures { result ≡ ring_at radius rho z }
-{
-    let c = elliptic(m);
-    let w = roots::root(s);
-    RingAverage {
-        v: 2.0 / doubles::PI * c.k / w,
-        drho: by_rho(radius, rho, z, s, d),
-        dz: -2.0 / doubles::PI * z * c.e / (w * d),
+    // The derivative by ρ away from the axis.
+    fn off_axis(self) -> f64
+        ensures { result ≡ off_axis self.radius self.rho self.z }
+    {
+        let kc = roots::root(self.d / self.s); // √(1 - m), without the subtraction near the wire
+        let w = roots::root(self.s);
+        -2.0 / (doubles::PI * (self.s * w))
+            * special_bulirsch::cel_of(kc, kc * kc, self.rho + self.radius, self.rho - self.radius)
+    }
+
+    // The derivative by ρ.
+    fn by_rho(self) -> f64
+        ensures { result ≡ ∂ρ self.radius self.rho self.z }
+    {
+        let RingStation { radius, rho, z, .. } = self;
+        if rho == 0.0 {
+            return 0.0;
+        }
+        if rho * rho < 9e-8 * (radius * radius + z * z) {
+            return near_axis(radius, rho, z);
+        }
+        self.off_axis()
+    }
+
+    fn average(self) -> RingAverage
+        ensures { result ≡ ring_at self.radius self.rho self.z }
+    {
+        let c = elliptic(self.m);
+        let w = roots::root(self.s);
+        RingAverage {
+            v: 2.0 / doubles::PI * c.k / w,
+            drho: self.by_rho(),
+            dz: -2.0 / doubles::PI * self.z * c.e / (w * self.d),
+        }
     }
 }
 
@@ -204,11 +217,9 @@ pub fn ring(radius: f64, rho: f64, z: f64) -> RingAnswer
     ensures { ring_answer result ≡ ring radius rho z }
 {
     if ring_within_limits(radius, rho, z) {
-        let s = (radius + rho) * (radius + rho) + z * z;
-        let d = (radius - rho) * (radius - rho) + z * z;
-        let m = 4.0 * radius * rho / s;
-        if (0.0 < radius) & (0.0 <= rho) & (0.0 < d) & (m < 1.0) {
-            return RingAnswer::Value(ring_at(radius, rho, z, s, d, m));
+        let at = RingStation::new(radius, rho, z);
+        if (0.0 < radius) & (0.0 <= rho) & (0.0 < at.d) & (at.m < 1.0) {
+            return RingAnswer::Value(at.average());
         }
         return RingAnswer::Refused(Refusal::OutsideDomain);
     }

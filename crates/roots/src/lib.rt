@@ -6,6 +6,8 @@ ghost use Rattle.std.specs.Float.{binary64};
 ghost use Rattle.roots.specs.Root.{Root};
 ghost use Rattle.roots.specs.NearestWhole.{Near, scaled_significand, RootFrom};
 
+use roots_starts::Curve;
+
 // The root of a * 2^52, rounded to a whole number: digit by digit, from the highest. w holds the digits
 // of a that are still to come; q is the root so far and r the rest.
 fn by_digits(a: u64) -> u64
@@ -15,23 +17,17 @@ fn by_digits(a: u64) -> u64
     let mut w = a << 10;
     let mut q = 0u64;
     let mut r = 0u64;
-    let mut i = 53u64;
-    while 0 < i {
+    for _ in 0..53u32 {
         r = r * 4 + (w >> 62);
         w = (w & 0x3fff_ffff_ffff_ffff) << 2;
         let t = q * 4 + 1;
-        q = q * 2;
+        q *= 2;
         if t <= r {
-            r = r - t;
-            q = q + 1;
+            r -= t;
+            q += 1;
         }
-        i = i - 1;
     }
     if q < r { q + 1 } else { q }
-}
-
-fn wide(x: u16) -> u64 {
-    x as u64
 }
 
 // A start value for 2^32 / √x, within a part in 2^29, where x is from 1 to 4 and b its pattern, up to a
@@ -41,10 +37,9 @@ fn start_of(b: u64) -> u64
 {
     let i = (b >> 44) & 0x1ff;
     let u = 0xffff_ffff - ((b >> 12) & 0xffff_ffff);
-    let p = roots_starts::parabola(i);
-    let v = p.0;
+    let Curve(v, w) = roots_starts::parabola(i);
     let rise = ((v & 0xff_ffff) * u) >> 32;
-    let bend = ((wide(p.1) & 0xffff) * ((u * u) >> 32)) >> 32;
+    let bend = ((u64::from(w) & 0xffff) * ((u * u) >> 32)) >> 32;
     (((v >> 32) & 0xffff_ffff) + rise + bend) & 0xffff_ffff
 }
 
@@ -164,21 +159,14 @@ fn positive(b: u64) -> f64
 pub fn root(x: f64) -> f64
     ensures { result ≡ Root x }
 {
-    if x != x {
+    if x.is_nan() {
         return x;
     }
-    let b = f64::to_bits(x);
-    if std::num::wrapping_sub_u64(b, 1) < 0x7fef_ffff_ffff_ffff {
-        return positive(b);
+    match f64::to_bits(x) {
+        b @ 1..=0x7fef_ffff_ffff_ffff => positive(b),
+        0 => x,
+        0x7ff0_0000_0000_0000 => x,
+        0x8000_0000_0000_0000 => x,
+        _ => 0.0 / 0.0,
     }
-    if b == 0 {
-        return x;
-    }
-    if b == 0x7ff0_0000_0000_0000 {
-        return x;
-    }
-    if b == 0x8000_0000_0000_0000 {
-        return x;
-    }
-    0.0 / 0.0
 }

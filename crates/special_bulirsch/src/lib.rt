@@ -2,8 +2,7 @@
 #![tactic(auto)]
 
 ghost use Rattle.std.specs.Prelude.{◌≡◌};
-ghost use Rattle.carlson.specs.Rounds.{rounds};
-ghost use Rattle.special_bulirsch.specs.Bulirsch.{max_turns, first_half, second_half, turn, cel_test, cel_end, cel_of};
+ghost use Rattle.special_bulirsch.specs.Bulirsch.{first_half, second_half, turn, cel_test, cel_end, cel_of};
 
 // The Rust's loop ends after 64 rounds and refuses nothing. The first half of its first round
 // stands before this one.
@@ -45,14 +44,11 @@ fn second_half(s: Bulirsch) -> Bulirsch
     Bulirsch {
         kc: k,
         e: k * s.m,
-        m: s.m,
-        previous: s.previous,
-        p: s.p,
-        a: s.a,
-        b: s.b,
+        ..s
     }
 }
 
+// The second half of a round and the first of the next.
 fn turn(s: Bulirsch) -> Bulirsch
     ensures { result ≡ turn s }
 {
@@ -63,22 +59,6 @@ fn cel_test(s: Bulirsch) -> bool
     ensures { result ≡ cel_test s }
 {
     !(doubles::abs(s.previous - s.kc) <= s.previous * 1e-15)
-}
-
-// The second half of a round and the first of the next while the test holds, at most MAX_TURNS.
-fn repeat_turn(s: Bulirsch) -> Bulirsch
-    ensures { result ≡ rounds cel_test turn max_turns s }
-{
-    let mut t = s;
-    let mut n: u32 = 0;
-    while n < MAX_TURNS {
-        if !cel_test(t) {
-            return t;
-        }
-        t = turn(t);
-        n += 1;
-    }
-    t
 }
 
 fn cel_end(s: Bulirsch) -> f64
@@ -102,5 +82,5 @@ pub fn cel_of(kc: f64, p: f64, a: f64, b: f64) -> f64
         a,
         b: b / sp,
     });
-    cel_end(repeat_turn(first))
+    cel_end(carlson::repeat(MAX_TURNS, cel_test, turn, first))
 }

@@ -2,11 +2,10 @@
 #![tactic(auto)]
 
 ghost use Rattle.std.specs.Prelude.{◌≡◌};
-ghost use Rattle.carlson.specs.CarlsonLoop.{max_rounds};
-ghost use Rattle.carlson.specs.Rounds.{rounds};
+ghost use Rattle.doubles.specs.Rounded.{◌⊕◌, ◌⊗◌};
 ghost use Rattle.special_rf_rd.specs.Duplication.{max_distance, series};
-ghost use Rattle.special_rf_rd.specs.Rf.{duplicate_f, test_f, series_f, rf};
-ghost use Rattle.special_rf_rd.specs.Rd.{duplicate_d, test_d, series_d, rd};
+ghost use Rattle.special_rf_rd.specs.Rf.{duplicate_f, series_f, rf};
+ghost use Rattle.special_rf_rd.specs.Rd.{duplicate_d, series_d, rd};
 
 use carlson::Integral;
 use refusals::Refusal;
@@ -49,6 +48,13 @@ fn max_distance(a0: f64, x: f64, y: f64, z: f64) -> f64
     doubles::max(doubles::max(dx, dy), dz)
 }
 
+// Carlson's λ, from the roots of x, y and z.
+pub fn lambda(sx: f64, sy: f64, sz: f64) -> f64
+    ensures { result ≡ sx ⊗ sy ⊕ sx ⊗ sz ⊕ sy ⊗ sz }
+{
+    sx * sy + sx * sz + sy * sz
+}
+
 // The series that ends R_D and R_J.
 pub fn series(e2: f64, e3: f64, e4: f64, e5: f64) -> f64
     ensures { result ≡ series e2 e3 e4 e5 }
@@ -63,10 +69,7 @@ pub fn series(e2: f64, e3: f64, e4: f64, e5: f64) -> f64
 fn duplicate_f(s: RoundF) -> RoundF
     ensures { result ≡ duplicate_f s }
 {
-    let sx = roots::root(s.x);
-    let sy = roots::root(s.y);
-    let sz = roots::root(s.z);
-    let lambda = sx * sy + sx * sz + sy * sz;
+    let lambda = lambda(roots::root(s.x), roots::root(s.y), roots::root(s.z));
     RoundF {
         x: (s.x + lambda) / 4.0,
         y: (s.y + lambda) / 4.0,
@@ -74,22 +77,6 @@ fn duplicate_f(s: RoundF) -> RoundF
         a: (s.a + lambda) / 4.0,
         f: s.f / 4.0,
     }
-}
-
-// Duplications while the loop's test holds, at most MAX_ROUNDS.
-fn repeat_f(q: f64, s: RoundF) -> RoundF
-    ensures { result ≡ rounds (test_f q) duplicate_f max_rounds s }
-{
-    let mut t = s;
-    let mut n: u32 = 0;
-    while n < carlson::MAX_ROUNDS {
-        if !carlson::loop_test(q, t.a, t.f) {
-            return t;
-        }
-        t = duplicate_f(t);
-        n += 1;
-    }
-    t
 }
 
 // The series that ends R_F, at Carlson's X and Y.
@@ -108,15 +95,18 @@ pub fn rf(x: f64, y: f64, z: f64) -> Integral
 {
     let a0 = (x + y + z) / 3.0;
     let q = RF_FACTOR * max_distance(a0, x, y, z);
-    let s = repeat_f(
-        q,
-        RoundF {
-            x,
-            y,
-            z,
-            a: a0,
-            f: 1.0,
-        },
+    let first = RoundF {
+        x,
+        y,
+        z,
+        a: a0,
+        f: 1.0,
+    };
+    let s = carlson::repeat(
+        carlson::MAX_ROUNDS,
+        |t| carlson::loop_test(q, t.a, t.f),
+        duplicate_f,
+        first,
     );
     if carlson::loop_test(q, s.a, s.f) {
         return Integral::Refused(Refusal::TooManyRounds);
@@ -130,10 +120,8 @@ pub fn rf(x: f64, y: f64, z: f64) -> Integral
 fn duplicate_d(s: RoundD) -> RoundD
     ensures { result ≡ duplicate_d s }
 {
-    let sx = roots::root(s.x);
-    let sy = roots::root(s.y);
     let sz = roots::root(s.z);
-    let lambda = sx * sy + sx * sz + sy * sz;
+    let lambda = lambda(roots::root(s.x), roots::root(s.y), sz);
     RoundD {
         x: (s.x + lambda) / 4.0,
         y: (s.y + lambda) / 4.0,
@@ -142,22 +130,6 @@ fn duplicate_d(s: RoundD) -> RoundD
         f: s.f / 4.0,
         sum: s.sum + s.f / (sz * (s.z + lambda)),
     }
-}
-
-// Duplications while the loop's test holds, at most MAX_ROUNDS.
-fn repeat_d(q: f64, s: RoundD) -> RoundD
-    ensures { result ≡ rounds (test_d q) duplicate_d max_rounds s }
-{
-    let mut t = s;
-    let mut n: u32 = 0;
-    while n < carlson::MAX_ROUNDS {
-        if !carlson::loop_test(q, t.a, t.f) {
-            return t;
-        }
-        t = duplicate_d(t);
-        n += 1;
-    }
-    t
 }
 
 // The series that ends R_D, at Carlson's X and Y.
@@ -179,16 +151,19 @@ pub fn rd(x: f64, y: f64, z: f64) -> Integral
 {
     let a0 = (x + y + 3.0 * z) / 5.0;
     let q = RD_FACTOR * max_distance(a0, x, y, z);
-    let s = repeat_d(
-        q,
-        RoundD {
-            x,
-            y,
-            z,
-            a: a0,
-            f: 1.0,
-            sum: 0.0,
-        },
+    let first = RoundD {
+        x,
+        y,
+        z,
+        a: a0,
+        f: 1.0,
+        sum: 0.0,
+    };
+    let s = carlson::repeat(
+        carlson::MAX_ROUNDS,
+        |t| carlson::loop_test(q, t.a, t.f),
+        duplicate_d,
+        first,
     );
     if carlson::loop_test(q, s.a, s.f) {
         return Integral::Refused(Refusal::TooManyRounds);

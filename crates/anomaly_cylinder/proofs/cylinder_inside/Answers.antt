@@ -4,4 +4,4 @@ use Rattle.anomaly_cylinder.proofs.cylinder_inside.Goals as goal
 
 pub returns : goal.returns
 unfolding cylinder_inside
-returns c = simp (c.times_vector-x.ensures, c.times_vector-y.ensures, c.times_vector-z.ensures)
+returns c = simp (c.times_vector.ensures, c.times_vector-2.ensures, c.times_vector-3.ensures)

@@ -4,4 +4,4 @@ use Rattle.anomaly_cylinder.proofs.cylinder_outside.Goals as goal
 
 pub returns : goal.returns
 unfolding cylinder_outside
-returns c = simp (c.line_row-x.ensures, c.line_row-y.ensures, c.line_row-z.ensures)
+returns c = simp (c.line_row.ensures, c.line_row-2.ensures, c.line_row-3.ensures)

@@ -7,7 +7,7 @@ unfolding projector
 returns c =
     simp (
       c.diagonal-e.ensures,
-      c.minus_times-x.ensures,
-      c.minus_times-y.ensures,
-      c.minus_times-z.ensures,
+      c.minus_times.ensures,
+      c.minus_times-2.ensures,
+      c.minus_times-3.ensures,
     )

@@ -8,7 +8,7 @@ returns c =
     simp (
       c.root.ensures,
       c.diagonal-e.ensures,
-      c.dipole_row-x.ensures,
-      c.dipole_row-y.ensures,
-      c.dipole_row-z.ensures,
+      c.dipole_row.ensures,
+      c.dipole_row-2.ensures,
+      c.dipole_row-3.ensures,
     )

@@ -7,9 +7,9 @@ unfolding magnetisation_of
 returns c =
     simp (
       c.diagonal-e.ensures,
-      c.equation-p.ensures,
-      c.equation-q.ensures,
-      c.equation-r.ensures,
+      c.equation.ensures,
+      c.equation-2.ensures,
+      c.equation-3.ensures,
       c.rows_of.ensures,
       c.gauss.ensures,
     )

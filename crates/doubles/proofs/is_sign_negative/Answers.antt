@@ -1,16 +1,14 @@
 -- `doubles::is_sign_negative` meets its contract. Assumes nothing.
-use mathlib.Core.Path.{sym, ap}
+use mathlib.Core.Path.{sym, ap, ◌∙◌}
+use mathlib.Core.Bool.{not}
 use Rattle.doubles.specs.Magnitude.{negative}
-use Rattle.doubles.proofs.Signs.{true→T, is-nan, is_number}
-use Rattle.doubles.proofs.SignBit.{sign_bit}
+use Rattle.doubles.proofs.Signs.{ne_self, is-nan}
+use Rattle.doubles.proofs.Magnitude.{negative_is}
 use Rattle.doubles.proofs.is_sign_negative.Goals as goal
 
-pub returns-then-x : goal.returns-then-x
+pub returns-then-not-is_nan : goal.returns-then-not-is_nan
+returns-then-not-is_nan c = c.is_sign_negative.ensures ∙ negative_is c.args.x
+
+pub returns-else-not-is_nan : goal.returns-else-not-is_nan
 unfolding negative
-returns-then-x c = sym (ap negative (is-nan c.args.x c.if-x.true))
-
-pub float_to_bits-result : goal.float_to_bits-result
-float_to_bits-result c = is_number c.args.x c.if-x.false
-
-pub returns : goal.returns
-returns c = sign_bit c.args.x (is_number c.args.x c.if-x.false) (true→T c.well_formed.0.1)
+returns-else-not-is_nan c = ap not c.if-not-is_nan.false ∙ sym (ap negative (is-nan c.args.x (ne_self c.args.x ∙ sym c.is_nan.ensures.value ∙ c.if-not-is_nan.false)))

@@ -1,13 +1,11 @@
 -- `doubles::min` meets its contract. Assumes nothing.
-use mathlib.Core.Bool.{true, false}
-use Rattle.doubles.proofs.Magnitude.{min-nan, min_of}
+use Rattle.doubles.specs.Magnitude.{min}
 use Rattle.doubles.proofs.min.Goals as goal
 
-pub returns-then-x : goal.returns-then-x
-returns-then-x c = min-nan c.args.x c.args.y c.if-x.true
+pub returns-then-is_nan-y : goal.returns-then-is_nan-y
+unfolding min
+returns-then-is_nan-y c = simp (← c.is_nan.ensures.value, c.if-is_nan-y.true)
 
-pub returns-then-y-x : goal.returns-then-y-x
-returns-then-y-x c = min_of c.args.x c.args.y true c.if-x.false c.if-y-x.true
-
-pub returns-else-y-x : goal.returns-else-y-x
-returns-else-y-x c = min_of c.args.x c.args.y false c.if-x.false c.if-y-x.false
+pub returns-else-is_nan-y : goal.returns-else-is_nan-y
+unfolding min
+returns-else-is_nan-y c = simp (← c.is_nan.ensures.value, c.if-is_nan-y.false)

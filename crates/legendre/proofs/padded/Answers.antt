@@ -7,7 +7,7 @@ use Rattle.legendre.proofs.padded.Goals as goal
 
 pub loop-i-init : goal.loop-i-init
 unfolding padded zeros
-loop-i-init c = (omega arith, refl)
+loop-i-init c = refl
 
 pub overflow_add-r : goal.overflow_add-r
 overflow_add-r c = omega (arith, entries)
@@ -21,20 +21,8 @@ bounds-t-start c = omega (arith, entries)
 pub float_from_bits-r : goal.float_from_bits-r
 float_from_bits-r c = readable c.args.t.now c.requires.0 _ (omega arith)
 
-pub offset_bounds-r-i : goal.offset_bounds-r-i
-offset_bounds-r-i c = omega arith
-
-pub bounds-r-i : goal.bounds-r-i
-bounds-r-i c = omega arith
-
-pub overflow_add-i : goal.overflow_add-i
-overflow_add-i c = omega arith
-
-pub loop-i-smaller : goal.loop-i-smaller
-loop-i-smaller c = omega arith
-
 pub loop-i-preserved : goal.loop-i-preserved
-loop-i-preserved c = (omega arith, padded-more c.args.t.now c.requires.0 _ _ _ c.loop-i.invariant.1)
+loop-i-preserved c = padded-more c.args.t.now c.requires.0 _ _ _ c.loop-i.invariant
 
 pub returns : goal.returns
-returns c = let e : c.loop-i.i ≡ c.args.n = omega arith in rw (← e) c.loop-i.invariant.1
+returns c = let e : c.loop-i.i ≡ c.args.n = omega arith in rw (← e) c.loop-i.invariant

@@ -1,11 +1,8 @@
 -- `legendre::padded` meets its contract. The invariant: after i turns the array holds the first i entries, and zeros after them. Assumes nothing.
 use mathlib.Core.Path.{◌≡◌}
-use Prim.Native.Nat.{◌+◌, ◌≤◌, ◌-◌}
+use Prim.Native.Nat.{◌+◌}
 use Rattle.legendre.specs.GaussLegendre.{entry, padded}
 use Rattle.legendre.proofs.padded.Given as goal
 
 abbrev pub invariant-loop-i : goal.invariant-loop-i
-invariant-loop-i l = (l.i ≤ l.n) × (l.r ≡ padded l.i (λ j. entry (l.start + j)))
-
-abbrev pub decreases-loop-i : goal.decreases-loop-i
-decreases-loop-i l = l.n - l.i
+invariant-loop-i l = l.r ≡ padded l.i (λ j. entry (l.start + j))

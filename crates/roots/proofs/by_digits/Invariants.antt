@@ -1,9 +1,7 @@
 -- `roots::by_digits` meets its contract. Assumes nothing.
+use Rattle.std.proofs.Common.{◌-◌}
 use Rattle.roots.proofs.Digits.{State}
 use Rattle.roots.proofs.by_digits.Given as goal
 
-abbrev pub invariant-loop-i : goal.invariant-loop-i
-invariant-loop-i l = State l.a l.w l.q l.r l.i
-
-abbrev pub decreases-loop-i : goal.decreases-loop-i
-decreases-loop-i l = l.i
+abbrev pub invariant-loop : goal.invariant-loop
+invariant-loop l = State l.a l.w l.q l.r (53 - l.counter)

@@ -5,4 +5,4 @@ use Rattle.special_rf_rd.proofs.duplicate_f.Goals as goal
 
 pub returns : goal.returns
 unfolding duplicate_f quarter
-returns c = simp (c.root-sx.ensures, c.root-sy.ensures, c.root-sz.ensures)
+returns c = simp (c.root.ensures, c.root-2.ensures, c.root-3.ensures, c.lambda-lambda.ensures)
