@@ -1,65 +1,52 @@
 // The input of the programs that read a sheet: up to 65,536 bytes, and one more to tell longer input.
 #![tactic(auto)]
 
-ghost use Rattle.std.specs.Prelude.{length};
-ghost use Rattle.recheck_input.specs.CameWithin.{CameWithin};
+ghost use Rattle.std.specs.Prelude.{◌≤◌, length, IfOk};
 
+use std::io;
 use std::io::{Error, ErrorKind, Read};
 
 pub const MAX_INPUT: usize = 65536;
 
-// What came of an input: so many bytes, up to its end or to the buffer's; or a read failed before that.
-#[derive(Clone, Copy)]
-pub enum Input {
-    Bytes(usize),
-    Failed,
-}
-
-// Says on standard error why a read failed. Where nothing can be written there, nothing is said.
-fn say_why(rt: &impl Eprint, error: &Error) {
-    let _ = eprintln!(rt; "input: {error}");
-}
-
 // One read, made again where a signal interrupted it: that is no failure. A proved loop has to end, so the repeats are counted up to a number that no run
 // uses up; past it the read counts as failed.
-fn read_once(rt: &impl Eprint, reader: &mut impl Read, buf: &mut [u8]) -> Input
-    ensures { CameWithin result (length buf.old) }
+fn read_once(reader: &mut impl Read, buf: &mut [u8]) -> io::Result<usize>
+    ensures { IfOk result (λ n. n ≤ length buf.old) }
 {
     for _ in 0..u64::MAX {
         match reader.read(buf) {
-            Ok(n) => return Input::Bytes(n),
-            Err(error) => {
-                if error.kind() != ErrorKind::Interrupted {
-                    say_why(rt, &error);
-                    return Input::Failed;
-                }
-            }
+            Err(error) if error.kind() == ErrorKind::Interrupted => {}
+            outcome => return outcome,
         }
     }
-    say_why(rt, &Error::from(ErrorKind::Interrupted));
-    Input::Failed
+    Err(Error::from(ErrorKind::Interrupted))
 }
 
-// Reads to the end of the input or of buf.
-fn read_to_end(rt: &impl Eprint, reader: &mut impl Read, buf: &mut [u8]) -> Input {
+// Reads to the end of the input or of buf, and answers how many bytes came.
+fn read_to_end(reader: &mut impl Read, buf: &mut [u8]) -> io::Result<usize> {
     let mut done = 0;
     while done < buf.len() {
-        let Input::Bytes(n) = read_once(rt, reader, &mut buf[done..]) else {
-            return Input::Failed;
-        };
+        let n = read_once(reader, &mut buf[done..])?;
         if n == 0 {
-            return Input::Bytes(done);
+            break;
         }
         done += n;
     }
-    Input::Bytes(done)
+    Ok(done)
 }
 
-// Reads to the end of the input or of buf, and says on standard error why a read failed.
+// Reads to the end of the input or of buf, and answers how many bytes came; None where a read failed before that, which it says on standard error, with the
+// reason. Where nothing can be written there, nothing is said.
 pub fn read_input(
     rt: &impl Eprint,
     reader: &mut impl Read,
     buf: &mut [u8; MAX_INPUT + 1],
-) -> Input {
-    read_to_end(rt, reader, buf)
+) -> Option<usize> {
+    match read_to_end(reader, buf) {
+        Ok(n) => Some(n),
+        Err(error) => {
+            let _ = eprintln!(rt; "input: {error}");
+            None
+        }
+    }
 }

@@ -1,3 +1,2 @@
--- Powers of the base, and laws of the line.
-pub mod Powers
+-- Laws of the line.
 pub mod Text

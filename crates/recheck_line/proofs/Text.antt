@@ -2,52 +2,25 @@
 use mathlib.Core.Path.{◌≡◌, refl, sym, ap, ◌∙◌}
 use mathlib.Core.Bool.{Bool, true, false, cond}
 use mathlib.Core.List.{List, [], ◌∷◌, ◌++◌, append_assoc}
-use Prim.Native.Nat.{ℕ, zero, suc, ◌+◌, ◌-◌, ◌*◌, ◌/◌, ◌^◌, ◌≤◌, ◌<◌}
-use native.Mathlib.Nat.{pow-suc, le_of_lt, zero-add}
-use native.Mathlib.Numerals.{add-one}
+use Prim.Native.Nat.{ℕ, zero, suc, ◌+◌, ◌/◌, ◌%◌, ◌^◌, ◌≤◌, ◌<◌}
+use native.Mathlib.Nat.{zero-add}
 use native.Mathlib.Omega.{arith}
 use lib.Dec.{ltb, leb}
-use lib.ListN.{length, get_or, set, take, length-append, length-take}
-use lib.Seq.{sets, length-sets, length-take-le, take-suc, take_all}
+use lib.ListN.{length, get_or, take, drop, length-append, length-take}
+use lib.Seq.{sets, sets-eq, length-sets}
+use borrow.Rule.Slice.PartMut.{put_mid}
+use Rattle.std.proofs.lemmas.List.{drop-drop}
 use borrow.Author.Tests.{lt-ltb, le-ltb, lt-leb, le-leb}
-use Rattle.recheck_line.specs.Digits.{last_digits, IsDigitCount}
-use Rattle.recheck_input.specs.declared.Input.{Input}
-use Rattle.recheck_input.specs.declared.Input.TheVariants.{Bytes, Failed}
+use Rattle.recheck_line.specs.Digits.{hex_digit_ascii, last_digits}
+use Rattle.std.specs.Prelude.{Option, Some, None}
+use Rattle.std.specs.Fmt as std
+use Rattle.std.proofs.lemmas.Fmt.{decimal_from_appends, length-decimal-le}
 use Rattle.refusals.specs.Answer.{Answer, value, refused}
 use Rattle.refusals.specs.declared.Refusal.TheVariants.{TooMany, WrongLength}
 use Rattle.refusals.specs.Numbers.{number_of, place_of}
 use Rattle.sheet.specs.Checker.{check_sheet}
 use Rattle.sheet_layout.proofs.Stores.{sets_then}
 use Rattle.recheck_line.specs.Line.{places, decimal, accepted_word, refused_word, line_of, answer_line, max_input, recheck_line, input_line, line_room, LineAtStart}
-
-ten_pos : (k : ℕ) → 0 < 10 ^ k
-ten_pos zero = omega arith
-ten_pos (suc k) = let e : 10 ^ suc k ≡ 10 ^ k * 10 = pow-suc 10 k in let p = ten_pos k in omega arith
-
--- the fewest digits are as many as `places` counts
-module _ {n k : ℕ} (h : IsDigitCount 10 1 n (suc (suc k))) where
-  from_ten : 10 ^ suc k ≤ n
-  from_ten = let e : suc (suc k) - 1 ≡ suc k = omega arith in rw e at (h.2 (omega arith))
-
-  ten : 10 ≤ n
-  ten = omega (arith, pow-suc 10 k, ten_pos k, from_ten)
-
-  without_last : IsDigitCount 10 1 (n / 10) (suc k)
-  without_last =
-      let e : suc k - 1 ≡ k = omega arith in
-      (omega arith, omega (arith, h.1, pow-suc 10 (suc k)), λ q. rw e (omega (arith, pow-suc 10 k, from_ten)))
-
-none : {n : ℕ} → IsDigitCount 10 1 n 0 → ⊥
-none h = omega (arith, h.0)
-
-counted : (m n r : ℕ) → IsDigitCount 10 1 n r → n < 10 ^ suc m → places m n ≡ r
-unfolding places
-counted zero n zero h l = absurd (none h)
-counted zero n (suc zero) h l = refl
-counted zero n (suc (suc k)) h l = absurd (omega (arith, ten h, pow-suc 10 0))
-counted (suc m) n zero h l = absurd (none h)
-counted (suc m) n (suc zero) h l = rw (lt-ltb n 10 (omega (arith, pow-suc 10 0, h.1)))
-counted (suc m) n (suc (suc k)) h l = rw (le-ltb n 10 (ten h)) (ap suc (counted m (n / 10) (suc k) (without_last h) (omega (arith, pow-suc 10 (suc m)))))
 
 one_more : (t : Bool) (p m : ℕ) → p ≤ suc m → cond t 1 (suc p) ≤ suc (suc m)
 one_more true p m h = omega arith
@@ -62,30 +35,43 @@ length_digits : (k n : ℕ) → length (last_digits 10 k n) ≡ k
 length_digits zero n = refl
 length_digits (suc k) n = simp length-append (rw (length_digits k (n / 10)) (omega arith))
 
--- a number of 32 bits
-module _ (n r : ℕ) (h : IsDigitCount 10 1 n r) (l : n < 4294967296) where
-  right-count : places 19 n ≡ r
-  right-count = counted 19 n r h (omega arith)
+-- ---- `decimal` is std's, which `itoa` writes
 
-  pub decimal-is : last_digits 10 r n ≡ decimal n
-  unfolding decimal
-  decimal-is = rw right-count
+-- the same with one digit more for each k, and none at first
+abbrev tail : ℕ → ℕ → List ℕ
+tail zero n = []
+tail (suc k) n = last_digits 10 (places k n) n
 
-  pub digits-count : r ≡ length (decimal n)
-  unfolding decimal
-  digits-count = rw right-count (sym (length_digits r n))
+last-digit : (n : ℕ) → hex_digit_ascii (n % 10) ≡ 48 + n % 10
+last-digit n = rw (lt-ltb (n % 10) 10 (omega arith))
 
-  pub few-digits : r ≤ 20
-  few-digits = omega (arith, right-count, places-most 19 n)
+one-digit : (n : ℕ) → n < 10 → hex_digit_ascii (n % 10) ≡ 48 + n
+one-digit n h = let e : n % 10 ≡ n = omega arith in rw e (rw (lt-ltb n 10 h))
 
--- one more character of a text
-pub put-turn : (l : List ℕ) (at i : ℕ) (xs : List ℕ) {s : List ℕ} → i < length xs → s ≡ sets l at (take i xs) → set s (at + i) (get_or xs i 0) ≡ sets l at (take (i + 1) xs)
-put-turn l at i xs h p =
-    rw (p, add-one, take-suc xs i 0 h) (sets_then l at (at + i) (take i xs) (get_or xs i 0 ∷ []) (rw (length-take-le i xs (le_of_lt h))))
+tail-one : (k n : ℕ) → n < 10 → tail (suc k) n ≡ (48 + n) ∷ []
+unfolding places
+tail-one zero n h = ap (λ (d : ℕ). d ∷ []) (one-digit n h)
+tail-one (suc k) n h = rw (lt-ltb n 10 h) (ap (λ (d : ℕ). d ∷ []) (one-digit n h))
 
--- all of a text
-pub whole-text : (l : List ℕ) (at i : ℕ) (xs : List ℕ) {s : List ℕ} → length xs ≤ i → s ≡ sets l at (take i xs) → s ≡ sets l at xs
-whole-text l at i xs h p = p ∙ rw (take_all i xs h)
+tail-more : (k n : ℕ) → 10 ≤ n → tail (suc k) n ≡ tail k (n / 10) ++ ((48 + n % 10) ∷ [])
+unfolding places
+tail-more zero n h = ap (λ (d : ℕ). d ∷ []) (last-digit n)
+tail-more (suc k) n h = rw (le-ltb n 10 h) (ap (λ (d : ℕ). tail (suc k) (n / 10) ++ (d ∷ [])) (last-digit n))
+
+pub decimal-is : (n : ℕ) → n < 2 ^ 64 → std.decimal n ≡ decimal n
+unfolding decimal
+decimal-is n h = sym (decimal_from_appends tail (record { one = tail-one; more = tail-more }) 20 n h (length-decimal-le 20 n (omega arith) (omega arith) h))
+
+-- ---- a text in a buffer
+
+-- written over the part of it from `at` on
+pub part-written : (l text part : List ℕ) (at k : ℕ) → part ≡ text → k ≡ length text → at + length text ≤ length l → put_mid at k l part ≡ sets l at text
+part-written l text part at k same long room =
+    let front = take at l in
+    ap (λ (p : List ℕ). front ++ (p ++ drop k (drop at l))) same
+    ∙ ap (λ (r : List ℕ). front ++ (text ++ r)) (drop-drop k at l ∙ ap (λ (j : ℕ). drop (at + j) l) long)
+    ∙ sym (append_assoc front text (drop (at + length text) l))
+    ∙ sym (sets-eq text l at room)
 
 -- a text after a text
 joined : (l : List ℕ) (t u : List ℕ) (k : ℕ) {s r : List ℕ} → s ≡ sets l 0 t → r ≡ sets s k u → k ≡ length t → r ≡ sets l 0 (t ++ u)
@@ -119,7 +105,7 @@ module _ (l word : List ℕ) (x y p q : ℕ) (ep : p ≡ length (decimal x)) (eq
 
 -- ---- no line is longer than `line_room`
 
-decimal-most : (n : ℕ) → length (decimal n) ≤ 20
+pub decimal-most : (n : ℕ) → length (decimal n) ≤ 20
 unfolding decimal
 decimal-most n = rw (length_digits (places 19 n) n) (places-most 19 n)
 
@@ -135,13 +121,13 @@ recheck_most : (b : List ℕ) → length (recheck_line b) ≤ line_room
 unfolding recheck_line
 recheck_most b = line_most (cond (leb (length b) max_input) (check_sheet b) (refused TooMany))
 
-input_most : (i : Input) (b : List ℕ) → length (input_line i b) ≤ line_room
+input_most : (i : Option ℕ) (b : List ℕ) → length (input_line i b) ≤ line_room
 unfolding input_line
-input_most (Bytes n) b = recheck_most (take n b)
-input_most Failed b = line_most (refused WrongLength)
+input_most (Some n) b = recheck_most (take n b)
+input_most None b = line_most (refused WrongLength)
 
 -- so a line of `recheck_line` ends within the buffer
-pub line_fits : (i : Input) (b : List ℕ) {n : ℕ} {new old : List ℕ} → LineAtStart n new old (input_line i b) → line_room ≤ length old → n ≤ length new
+pub line_fits : (i : Option ℕ) (b : List ℕ) {n : ℕ} {new old : List ℕ} → LineAtStart n new old (input_line i b) → line_room ≤ length old → n ≤ length new
 line_fits i b {old = old} h r = omega (arith, input_most i b, h.count, ap length h.bytes, length-sets old 0 (input_line i b))
 
 -- ---- what `recheck` prints of the first n bytes

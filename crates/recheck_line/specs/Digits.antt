@@ -1,5 +1,5 @@
 -- A number as decimal text, as the kit's older library `io` stated it. Definitions only.
-use Rattle.std.specs.Prelude.{ℕ, zero, suc, ◌+◌, ◌-◌, ◌/◌, ◌%◌, ◌^◌, ◌<◌, ◌≤◌, cond, List, [], ◌∷◌, ◌++◌, nat_lt}
+use Rattle.std.specs.Prelude.{ℕ, zero, suc, ◌+◌, ◌/◌, ◌%◌, cond, List, [], ◌∷◌, ◌++◌, nat_lt}
 
 -- the ASCII code of a digit below 16: `0` to `9`, then `a` to `f`
 abbrev pub hex_digit_ascii : ℕ → ℕ
@@ -9,7 +9,3 @@ hex_digit_ascii d = cond (nat_lt d 10) (48 + d) (87 + d)
 abbrev pub last_digits : ℕ → ℕ → ℕ → List ℕ
 last_digits b zero n = []
 last_digits b (suc k) n = last_digits b k (n / b) ++ (hex_digit_ascii (n % b) ∷ [])
-
--- n takes k digits in base b, when padded to `width` digits
-abbrev pub IsDigitCount : ℕ → ℕ → ℕ → ℕ → Type 0
-IsDigitCount b width n k = (width ≤ k) × (n < b ^ k) × (width < k → b ^ (k - 1) ≤ n)

@@ -1,9 +1,7 @@
 -- The line that `recheck` prints, in ASCII, as document 01 has it: `accepted KIND S` or `refused NUMBER PLACE`, and a newline. Definitions only.
-use Rattle.std.specs.Prelude.{◌≡◌, cond, List, [], ◌∷◌, ◌++◌, ℕ, zero, suc, ◌/◌, ltb, leb, length, get_or, take}
+use Rattle.std.specs.Prelude.{◌≡◌, cond, List, [], ◌∷◌, ◌++◌, ℕ, zero, suc, ◌/◌, ltb, leb, length, get_or, take, Option, Some, None}
 use Rattle.std.proofs.lemmas.List.Edits.{sets}
 use Rattle.recheck_line.specs.Digits.{last_digits}
-use Rattle.recheck_input.specs.declared.Input.{Input}
-use Rattle.recheck_input.specs.declared.Input.TheVariants.{Bytes, Failed}
 use Rattle.refusals.specs.Answer.{Answer, value, refused}
 use Rattle.refusals.specs.declared.Refusal.TheVariants.{TooMany, WrongLength}
 use Rattle.refusals.specs.Numbers.{number_of, place_of}
@@ -42,9 +40,9 @@ unfoldable pub recheck_line : List ℕ → List ℕ
 recheck_line b = answer_line (cond (leb (length b) max_input) (check_sheet b) (refused TooMany))
 
 -- what `recheck` prints of its input, of which n bytes stand at the start of b. Where a read failed the sheet is not there whole: `refused 16 0`
-unfoldable pub input_line : Input → List ℕ → List ℕ
-input_line (Bytes n) b = recheck_line (take n b)
-input_line Failed b = answer_line (refused WrongLength)
+unfoldable pub input_line : Option ℕ → List ℕ → List ℕ
+input_line (Some n) b = recheck_line (take n b)
+input_line None b = answer_line (refused WrongLength)
 
 -- ---- a line in a lent buffer
 

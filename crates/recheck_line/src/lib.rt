@@ -6,9 +6,8 @@ ghost use Rattle.std.proofs.lemmas.List.Edits.{sets};
 ghost use Rattle.sheet.specs.Checker.{verdict_answer};
 ghost use Rattle.recheck_line.specs.Line.{decimal, line_of, line_room, answer_line, max_input, recheck_line, input_line, LineAtStart};
 
-mod digits;
-
-use recheck_input::{Input, MAX_INPUT};
+use itoa::Buffer;
+use recheck_input::MAX_INPUT;
 use refusals::Refusal;
 use sheet::Verdict;
 use std::io;
@@ -19,9 +18,7 @@ fn put(out: &mut [u8], at: usize, text: &[u8])
     requires { at + length text.now ≤ length out.old }
     ensures { out.new ≡ sets out.old at text.now }
 {
-    for i in 0..text.len() {
-        out[at + i] = text[i];
-    }
+    out[at..at + text.len()].copy_from_slice(text);
 }
 
 // Writes n's digits from place at on, and answers how many there are.
@@ -30,10 +27,10 @@ fn put_decimal(out: &mut [u8], at: usize, n: u32) -> usize
     ensures value { (result ≡ length (decimal n)) × (result ≤ 20) }
     ensures out_after { out.new ≡ sets out.old at (decimal n) }
 {
-    let mut text = [0u8; 20];
-    let k = digits::decimal(n as u64, &mut text);
-    put(out, at, &text[..k]);
-    k
+    let mut buffer = Buffer::new();
+    let digits = buffer.format(n).as_bytes();
+    put(out, at, digits);
+    digits.len()
 }
 
 // Writes a word, two numbers and the line's end, and answers how many bytes that is.
@@ -76,13 +73,13 @@ fn bytes_line(bytes: &[u8], n: usize, out: &mut [u8]) -> usize
 
 // Writes the line that `recheck` prints of its input, which stands at the start of buffer, at the start of out, and answers how many bytes it has. Input that
 // a failed read cut off is refused by 16: the sheet is not there whole.
-pub fn recheck_line(buffer: &[u8; MAX_INPUT + 1], input: Input, out: &mut [u8]) -> usize
+pub fn recheck_line(buffer: &[u8; MAX_INPUT + 1], input: Option<usize>, out: &mut [u8]) -> usize
     requires { line_room ≤ length out.old }
     ensures { LineAtStart result out.new out.old (input_line input buffer.now) }
 {
     match input {
-        Input::Bytes(n) => bytes_line(buffer, n, out),
-        Input::Failed => verdict_line(Verdict::Refused(Refusal::WrongLength), out),
+        Some(n) => bytes_line(buffer, n, out),
+        None => verdict_line(Verdict::Refused(Refusal::WrongLength), out),
     }
 }
 

@@ -17,9 +17,9 @@ fn within(x: f64, y: f64, tolerance: f64) -> bool {
     doubles::abs(x - y) < tolerance
 }
 
-fn say(output: &mut impl Write, holds: bool, what: &[u8]) -> io::Result<()> {
+fn say(output: &mut impl Write, holds: bool, what: &str) -> io::Result<()> {
     if holds {
-        output.write_all(what)?;
+        writeln!(output, "{what}")?;
     }
     Ok(())
 }
@@ -30,12 +30,12 @@ fn bouguer(output: &mut impl Write, f: Newtonian) -> io::Result<()> {
     say(
         output,
         within(-g.z * G * 2670.0 / 1e-5, 0.11197, 1e-5),
-        b"Bouguer gradient: 0.11197 mGal/m\n",
+        "Bouguer gradient: 0.11197 mGal/m",
     )?;
     say(
         output,
         within(-g.z / (2.0 * doubles::PI), 1.0, 1e-6),
-        b"Bouguer gradient: 2 pi\n",
+        "Bouguer gradient: 2 pi",
     )
 }
 
@@ -64,7 +64,7 @@ fn main(rt: HostRuntime) -> io::Result<()> {
         say(
             &mut output,
             within(trace(f), -4.0 * doubles::PI, 1e-13),
-            b"trace inside: -4 pi\n",
+            "trace inside: -4 pi",
         )?;
     }
     let outside = prism::prism(
@@ -76,7 +76,7 @@ fn main(rt: HostRuntime) -> io::Result<()> {
         say(
             &mut output,
             within(trace(f), 0.0, 1e-13),
-            b"trace outside: 0\n",
+            "trace outside: 0",
         )?;
     }
     Ok(())

@@ -4,7 +4,7 @@
 // station; too_long has one byte more.
 #![tactic(auto)]
 
-use recheck_input::{Input, MAX_INPUT};
+use recheck_input::MAX_INPUT;
 use std::io::{Error, ErrorKind, Read};
 use std::rt::Files;
 use std::{fs, io};
@@ -45,8 +45,8 @@ impl Read for NoDescriptor {
 fn print_length(rt: &(impl Print + Eprint), reader: &mut impl Read) -> io::Result<()> {
     let mut buffer = [0u8; MAX_INPUT + 1];
     match recheck_input::read_input(rt, reader, &mut buffer) {
-        Input::Bytes(n) => print!(rt; "{n} bytes: "),
-        Input::Failed => print!(rt; "a read failed: "),
+        Some(n) => print!(rt; "{n} bytes: "),
+        None => print!(rt; "a read failed: "),
     }
 }
 

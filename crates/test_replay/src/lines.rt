@@ -1,35 +1,84 @@
-// How many lines of a list were compared, and how many differ, call by call.
-ghost use Rattle.std.specs.Prelude.{◌<◌, ◌≤◌};
+// Goes through a list, line by line, and counts how many lines of each call were compared, and how many differ.
+ghost use Rattle.std.specs.Prelude.{◌≤◌};
 
-use crate::Tally;
 use std::io;
 use std::io::{Read, Write};
 
-pub fn nothing() -> Tally {
-    Tally {
-        compared: [0; 8],
-        differ: [0; 8],
+// How many lines of a call were compared, and how many of them differ.
+#[derive(Clone, Copy, Default)]
+struct Count {
+    compared: u64,
+    differ: u64,
+}
+
+impl Count {
+    // One line more, which agrees or differs.
+    fn add(&mut self, agrees: bool) {
+        self.compared = self.compared.wrapping_add(1);
+        if !agrees {
+            self.differ = self.differ.wrapping_add(1);
+        }
     }
 }
 
-// One line more of the call, which agrees or differs. A line of no such call counts nowhere.
-pub fn count(t: Tally, call: u64, agrees: bool) -> Tally {
-    if 8 <= call {
-        return t;
-    }
-    let i = call as usize;
-    let mut r = t;
-    r.compared[i] = r.compared[i].wrapping_add(1);
-    if agrees {
-        return r;
-    }
-    r.differ[i] = r.differ[i].wrapping_add(1);
-    r
+// The counts of the calls that a list numbers from 0 to 7.
+#[derive(Clone, Copy, Default)]
+pub struct Tally {
+    calls: [Count; 8],
 }
 
-// Reads as many bytes as `line` has; false where there are fewer, or a read fails.
-pub fn read_line(input: &mut impl Read, line: &mut [u8]) -> bool {
-    input.read_exact(line).is_ok()
+impl Tally {
+    // One line more of the call, which agrees or differs: it differs where a number is missing. A line of no such call counts nowhere.
+    pub fn count(&mut self, call: Option<u64>, agrees: Option<bool>) {
+        let Some(i) = call.and_then(|call| usize::try_from(call).ok()) else {
+            return;
+        };
+        if let Some(counted) = self.calls.get_mut(i) {
+            counted.add(agrees == Some(true));
+        }
+    }
+
+    // Prints a line for each name, of the calls from `first` on: the name, how many, what was done with them, how many differ.
+    pub fn report_as(
+        &self,
+        output: &mut impl Write,
+        first: usize,
+        names: &[&str],
+        done: &str,
+    ) -> io::Result<()> {
+        for (count, name) in self.calls.iter().skip(first).zip(names) {
+            let Count { compared, differ } = *count;
+            writeln!(output, "{name}: {compared} {done}, {differ} differ")?;
+        }
+        Ok(())
+    }
+
+    pub fn report(&self, output: &mut impl Write, first: usize, names: &[&str]) -> io::Result<()> {
+        self.report_as(output, first, names, "compared")
+    }
+}
+
+// The next N bytes of the list, None where there are fewer, or a read fails.
+pub fn read<const N: usize>(input: &mut impl Read) -> Option<[u8; N]> {
+    let mut bytes = [0u8; N];
+    input.read_exact(&mut bytes).ok()?;
+    Some(bytes)
+}
+
+// Goes through a list, of which `next` reads and counts a line, until it finds none.
+pub fn replay<R: Read, F: FnMut(&mut R, &mut Tally) -> Option<()>>(
+    input: &mut R,
+    mut next: F,
+) -> Tally
+    requires { F.IsAlwaysCallable next }
+{
+    let mut tally = Tally::default();
+    for _ in 0..u64::MAX {
+        if next(input, &mut tally).is_none() {
+            break;
+        }
+    }
+    tally
 }
 
 // A length that a list gives, if it is within 16,384, else 0.
@@ -37,28 +86,4 @@ pub fn small(n: u32) -> usize
     ensures { result ≤ 16384 }
 {
     if n <= 16384 { n as usize } else { 0 }
-}
-
-// Prints a call's line: its name, how many, what was done with them, how many differ.
-pub fn report_as(
-    output: &mut impl Write,
-    name: &[u8],
-    done: &[u8],
-    t: Tally,
-    call: usize,
-) -> io::Result<()>
-    requires { call < 8 }
-{
-    output.write_all(name)?;
-    let compared = t.compared[call];
-    write!(output, "{compared}")?;
-    output.write_all(done)?;
-    let differ = t.differ[call];
-    writeln!(output, "{differ} differ")
-}
-
-pub fn report(output: &mut impl Write, name: &[u8], t: Tally, call: usize) -> io::Result<()>
-    requires { call < 8 }
-{
-    report_as(output, name, b" compared, ", t, call)
 }

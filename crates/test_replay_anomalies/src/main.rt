@@ -10,129 +10,131 @@ use anomaly::{NumberAnswer, VectorAnswer};
 use newtonian::Hessian;
 use refusals::Refusal;
 use std::io;
-use test_replay::{double_at, lines, vector_at, word_at};
+use test_replay::{double_at, lines, runs, vector_at, word_at};
 
 // The three numbers of an answer.
-#[derive(Clone, Copy)]
-struct Numbers(u64, u64, u64);
+type Numbers = [u64; 3];
 
 // Nine numbers from place k on, row by row.
-fn matrix_at(s: &[u8], k: usize) -> Hessian
+fn matrix_at(line: &[u8], k: usize) -> Option<Hessian>
     requires { k ≤ 8 }
 {
-    Hessian {
-        x: vector_at(s, k),
-        y: vector_at(s, k + 3),
-        z: vector_at(s, k + 6),
-    }
+    Some(Hessian {
+        x: vector_at(line, k)?,
+        y: vector_at(line, k + 3)?,
+        z: vector_at(line, k + 6)?,
+    })
 }
 
 fn refused(r: Refusal) -> Numbers {
-    Numbers(test_replay::refused(r), 0, 0)
+    [test_replay::refused(r), 0, 0]
 }
 
 fn of_vector(a: VectorAnswer) -> Numbers {
     match a {
-        VectorAnswer::Value(v) => Numbers(
-            doubles::to_bits(v.x),
-            doubles::to_bits(v.y),
-            doubles::to_bits(v.z),
-        ),
+        VectorAnswer::Value(v) => [v.x, v.y, v.z].map(doubles::to_bits),
         VectorAnswer::Refused(r) => refused(r),
     }
 }
 
 fn of_number(a: NumberAnswer) -> Numbers {
     match a {
-        NumberAnswer::Value(x) => Numbers(doubles::to_bits(x), 0, 0),
+        NumberAnswer::Value(x) => [doubles::to_bits(x), 0, 0],
         NumberAnswer::Refused(r) => refused(r),
     }
 }
 
-fn body(s: &[u8]) -> Numbers {
-    of_vector(anomaly::body(matrix_at(s, 1), vector_at(s, 10)))
+fn body(line: &[u8]) -> Option<VectorAnswer> {
+    Some(anomaly::body(matrix_at(line, 1)?, vector_at(line, 10)?))
 }
 
-fn total_field(s: &[u8]) -> Numbers {
-    of_number(anomaly::total_field(vector_at(s, 1), vector_at(s, 4)))
-}
-
-fn sphere(s: &[u8]) -> Numbers {
-    of_vector(anomaly_sphere::sphere(
-        vector_at(s, 1),
-        vector_at(s, 4),
-        double_at(s, 7),
-        vector_at(s, 8),
+fn total_field(line: &[u8]) -> Option<NumberAnswer> {
+    Some(anomaly::total_field(
+        vector_at(line, 1)?,
+        vector_at(line, 4)?,
     ))
 }
 
-fn cylinder(s: &[u8]) -> Numbers {
-    of_vector(anomaly_cylinder::cylinder(
-        vector_at(s, 1),
-        vector_at(s, 4),
-        vector_at(s, 7),
-        double_at(s, 10),
-        vector_at(s, 11),
+fn sphere(line: &[u8]) -> Option<VectorAnswer> {
+    Some(anomaly_sphere::sphere(
+        vector_at(line, 1)?,
+        vector_at(line, 4)?,
+        double_at(line, 7)?,
+        vector_at(line, 8)?,
     ))
 }
 
-fn ellipsoid_factors(s: &[u8]) -> Numbers {
-    of_vector(demagnetisation::ellipsoid_factors(double_at(s, 1), double_at(s, 2), double_at(s, 3)))
-}
-
-fn magnetisation(s: &[u8]) -> Numbers {
-    of_vector(demagnetisation::magnetisation(
-        double_at(s, 1),
-        vector_at(s, 2),
-        vector_at(s, 5),
-        matrix_at(s, 8),
+fn cylinder(line: &[u8]) -> Option<VectorAnswer> {
+    Some(anomaly_cylinder::cylinder(
+        vector_at(line, 1)?,
+        vector_at(line, 4)?,
+        vector_at(line, 7)?,
+        double_at(line, 10)?,
+        vector_at(line, 11)?,
     ))
 }
 
-fn koenigsberger(s: &[u8]) -> Numbers {
-    of_number(demagnetisation::koenigsberger(vector_at(s, 1), double_at(s, 4), vector_at(s, 5)))
+fn ellipsoid_factors(line: &[u8]) -> Option<VectorAnswer> {
+    Some(demagnetisation::ellipsoid_factors(
+        double_at(line, 1)?,
+        double_at(line, 2)?,
+        double_at(line, 3)?,
+    ))
 }
 
-fn answer(s: &[u8], call: u64) -> Numbers {
-    match call {
-        1 => body(s),
-        2 => total_field(s),
-        3 => sphere(s),
-        4 => cylinder(s),
-        5 => ellipsoid_factors(s),
-        6 => magnetisation(s),
-        _ => koenigsberger(s),
+fn magnetisation(line: &[u8]) -> Option<VectorAnswer> {
+    Some(demagnetisation::magnetisation(
+        double_at(line, 1)?,
+        vector_at(line, 2)?,
+        vector_at(line, 5)?,
+        matrix_at(line, 8)?,
+    ))
+}
+
+fn koenigsberger(line: &[u8]) -> Option<NumberAnswer> {
+    Some(demagnetisation::koenigsberger(
+        vector_at(line, 1)?,
+        double_at(line, 4)?,
+        vector_at(line, 5)?,
+    ))
+}
+
+// The answer of the call to the line's arguments. A number of the list is met here alone: an enum of the calls would be matched twice.
+fn answer(line: &[u8]) -> Option<Numbers> {
+    match word_at(line, 0)? {
+        1 => body(line).map(of_vector),
+        2 => total_field(line).map(of_number),
+        3 => sphere(line).map(of_vector),
+        4 => cylinder(line).map(of_vector),
+        5 => ellipsoid_factors(line).map(of_vector),
+        6 => magnetisation(line).map(of_vector),
+        7 => koenigsberger(line).map(of_number),
+        _ => None,
     }
 }
 
 // Whether the line's answer is the call's answer to its arguments.
-fn agrees(s: &[u8]) -> bool {
-    let a = answer(s, word_at(s, 0));
-    if word_at(s, 17) != a.0 {
-        return false;
-    }
-    if word_at(s, 18) != a.1 {
-        return false;
-    }
-    word_at(s, 19) == a.2
+fn agrees(line: &[u8]) -> Option<bool> {
+    Some(runs::same_words(line, 17, &answer(line)?))
 }
 
 fn main(rt: HostRuntime) -> io::Result<()> {
-    let mut input = rt.reader();
-    let mut output = io::writer(&rt);
-    let mut t = lines::nothing();
-    for _ in 0..1000000usize {
-        let mut line = [0u8; 340];
-        if !lines::read_line(&mut input, &mut line) {
-            break;
-        }
-        t = lines::count(t, word_at(&line, 0), agrees(&line));
-    }
-    lines::report(&mut output, b"body: ", t, 1)?;
-    lines::report(&mut output, b"total_field: ", t, 2)?;
-    lines::report(&mut output, b"sphere: ", t, 3)?;
-    lines::report(&mut output, b"cylinder: ", t, 4)?;
-    lines::report(&mut output, b"ellipsoid_factors: ", t, 5)?;
-    lines::report(&mut output, b"magnetisation: ", t, 6)?;
-    lines::report(&mut output, b"koenigsberger: ", t, 7)
+    let tally = lines::replay(&mut rt.reader(), |input, tally| {
+        let line: [u8; 340] = lines::read(input)?;
+        tally.count(word_at(&line, 0), agrees(&line));
+        Some(())
+    });
+    tally.report(
+        &mut io::writer(&rt),
+        1,
+        &[
+            "body",
+            "total_field",
+            "sphere",
+            "cylinder",
+            "ellipsoid_factors",
+            "magnetisation",
+            "koenigsberger",
+        ],
+    )
 }

@@ -14,33 +14,33 @@ fn rc(x: f64, y: f64) -> u64 {
     }
 }
 
-fn answer(call: u64, x: f64, y: f64) -> u64 {
-    match call {
-        1 => rc(x, y),
-        2 => doubles::to_bits(carlson::ln(x)),
-        3 => doubles::to_bits(carlson::atan(x)),
-        _ => doubles::to_bits(carlson::atan2(x, y)),
+// The answer of the call to the line's arguments. A number of the list is met here alone: an enum of the calls would be matched twice.
+fn answer(line: &[u8]) -> Option<u64> {
+    let x = double_at(line, 1)?;
+    let y = double_at(line, 2)?;
+    match word_at(line, 0)? {
+        1 => Some(rc(x, y)),
+        2 => Some(doubles::to_bits(carlson::ln(x))),
+        3 => Some(doubles::to_bits(carlson::atan(x))),
+        4 => Some(doubles::to_bits(carlson::atan2(x, y))),
+        _ => None,
     }
 }
 
 // Whether the line's answer is the call's answer to its arguments.
-fn agrees(s: &[u8]) -> bool {
-    answer(word_at(s, 0), double_at(s, 1), double_at(s, 2)) == word_at(s, 3)
+fn agrees(line: &[u8]) -> Option<bool> {
+    Some(word_at(line, 3)? == answer(line)?)
 }
 
 fn main(rt: HostRuntime) -> io::Result<()> {
-    let mut input = rt.reader();
-    let mut output = io::writer(&rt);
-    let mut t = lines::nothing();
-    for _ in 0..1000000usize {
-        let mut line = [0u8; 68];
-        if !lines::read_line(&mut input, &mut line) {
-            break;
-        }
-        t = lines::count(t, word_at(&line, 0), agrees(&line));
-    }
-    lines::report(&mut output, b"rc: ", t, 1)?;
-    lines::report(&mut output, b"ln: ", t, 2)?;
-    lines::report(&mut output, b"atan: ", t, 3)?;
-    lines::report(&mut output, b"atan2: ", t, 4)
+    let tally = lines::replay(&mut rt.reader(), |input, tally| {
+        let line: [u8; 68] = lines::read(input)?;
+        tally.count(word_at(&line, 0), agrees(&line));
+        Some(())
+    });
+    tally.report(
+        &mut io::writer(&rt),
+        1,
+        &["rc", "ln", "atan", "atan2"],
+    )
 }

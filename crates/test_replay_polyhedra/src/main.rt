@@ -4,125 +4,90 @@
 // many lines were compared, with all of work, and how many differ.
 #![tactic(auto)]
 
-ghost use Rattle.std.specs.Prelude.{◌≤◌, length};
+ghost use Rattle.std.specs.Prelude.{◌≤◌};
 
 use newtonian::{Field, Vector};
-use refusals::Refusal;
 use std::io;
 use std::io::{Read, Write};
-use test_replay::{lines, runs, vector_at, word_at};
+use test_replay::{lines, runs, vector_at};
 
-fn same_refusal(s: &[u8], k: usize, r: Refusal) -> bool
-    requires { k ≤ 4000 }
-{
-    if word_at(s, k) != test_replay::refused(r) {
-        return false;
-    }
-    if word_at(s, k + 1) != runs::first(r) as u64 {
-        return false;
-    }
-    word_at(s, k + 2) == runs::second(r) as u64
-}
-
-fn same_answer(s: &[u8], k: usize, a: Field) -> bool
-    requires { k ≤ 4000 }
+fn same_answer(line: &[u8], at: usize, a: Field) -> bool
+    requires { at ≤ 4000 }
 {
     match a {
-        Field::At(f) => runs::same_field(s, k, f),
-        Field::Refused(r) => same_refusal(s, k, r),
+        Field::At(f) => runs::same_field(line, at, f),
+        Field::Refused(r) => {
+            let [first, second] = runs::values(r);
+            runs::same_words(line, at, &[test_replay::refused(r), first, second])
+        }
     }
 }
 
-// Whether a line but for its lengths, the station, the two lists, the answer and work, is right. The lists are read into room of their
-// lengths.
-fn answers(s: &[u8], verts: &mut [f64], faces: &mut [u32], work: &mut [u32]) -> bool
-    requires { (length verts.old ≤ 1000) × (length faces.old ≤ 1000) × (length work.old ≤ 1000) }
-{
-    runs::read_doubles(s, 3, verts);
-    runs::read_indices(s, verts.len() + 3, faces);
-    runs::mark(work);
-    let a = polyhedron::polyhedron(vector_at(s, 0), verts, faces, work);
-    let k = verts.len() + faces.len() + 3;
-    if !same_answer(s, k, a) {
-        return false;
-    }
-    runs::same_work(s, k + 13, work)
-}
-
-fn agrees(s: &[u8], v: usize, f: usize, n: usize) -> bool
+// Whether the answer and work are right. `line` is the rest of a line whose lengths are v, f and n.
+fn agrees(line: &[u8], v: usize, f: usize, n: usize) -> Option<bool>
     requires { (v ≤ 1000) × (f ≤ 1000) × (n ≤ 1000) }
 {
-    let mut verts = runs::vertex_room();
-    let mut faces = runs::face_room();
-    let mut work = runs::face_room();
-    answers(s, &mut verts[..v], &mut faces[..f], &mut work[..n])
+    let mut verts = [0.0; 1000];
+    let mut faces = [0; 1000];
+    let mut work = [0; 1000];
+    let verts = &mut verts[..v];
+    let faces = &mut faces[..f];
+    let work = &mut work[..n];
+    runs::read_doubles(line, 3, verts)?;
+    runs::read_indices(line, 3 + v, faces)?;
+    runs::mark(work);
+    let answer = polyhedron::polyhedron(vector_at(line, 0)?, verts, faces, work);
+    let at = 3 + v + f;
+    Some(same_answer(line, at, answer) && runs::same_work(line, at + 13, work))
 }
 
-// The number of the refusal of v zeros as vertices and f zeros as faces; 0 if there is none.
-fn zeros(v: usize, f: usize) -> u32
+// The same of the next line, whose lengths these are.
+fn next_agrees(input: &mut impl Read, lengths: &[u8]) -> Option<bool> {
+    let v = runs::length_at(lengths, 0);
+    let f = runs::length_at(lengths, 1);
+    let n = runs::length_at(lengths, 2);
+    let mut bytes = [0; 65536];
+    let line = &mut bytes[..17 * (v + f + n + 16)];
+    input.read_exact(line).ok()?;
+    agrees(line, v, f, n)
+}
+
+// The number of the refusal of v zeros as vertices and f zeros as faces, if there is one.
+fn zeros(v: usize, f: usize) -> Option<u32>
     requires { (v ≤ 60003) × (f ≤ 98307) }
 {
-    let verts = runs::vertex_room();
-    let faces = runs::face_room();
-    let mut work = runs::face_room();
-    let p = Vector {
+    let verts = [0.0; runs::VERTEX_ROOM];
+    let faces = [0; runs::FACE_ROOM];
+    let mut work = [0; runs::FACE_ROOM];
+    let origin = Vector {
         x: 0.0,
         y: 0.0,
         z: 0.0,
     };
-    match polyhedron::polyhedron(p, &verts[..v], &faces[..f], &mut work) {
-        Field::At(_) => 0,
-        Field::Refused(r) => refusals::number(r),
+    match polyhedron::polyhedron(origin, &verts[..v], &faces[..f], &mut work) {
+        Field::At(_) => None,
+        Field::Refused(r) => Some(refusals::number(r)),
     }
 }
 
 // V = 20,000 and F = 32,768 are within the limits: no faces is 8, and zeros as faces are flipped, 5. One more of either is 2.
 fn limits() -> bool {
-    if zeros(60000, 0) != 8 {
-        return false;
-    }
-    if zeros(60003, 0) != 2 {
-        return false;
-    }
-    if zeros(60000, 98304) != 5 {
-        return false;
-    }
-    zeros(60000, 98307) == 2
-}
-
-// Reads as many bytes as `line` has, the rest of a line.
-fn rest_agrees(input: &mut impl Read, line: &mut [u8], v: usize, f: usize, n: usize) -> bool
-    requires { (v ≤ 1000) × (f ≤ 1000) × (n ≤ 1000) }
-{
-    if !lines::read_line(input, line) {
-        return false;
-    }
-    agrees(line, v, f, n)
-}
-
-// The line that these lengths begin.
-fn line_agrees(input: &mut impl Read, lengths: &[u8]) -> bool {
-    let v = runs::length_at(lengths, 0);
-    let f = runs::length_at(lengths, 1);
-    let n = runs::length_at(lengths, 2);
-    let mut bytes = [0u8; 65536];
-    rest_agrees(input, &mut bytes[..17 * (v + f + n + 16)], v, f, n)
+    zeros(60000, 0) == Some(8)
+        && zeros(60003, 0) == Some(2)
+        && zeros(60000, 98304) == Some(5)
+        && zeros(60000, 98307) == Some(2)
 }
 
 fn main(rt: HostRuntime) -> io::Result<()> {
-    let mut input = rt.reader();
     let mut output = io::writer(&rt);
-    let mut t = lines::nothing();
-    for _ in 0..1000000usize {
-        let mut lengths = [0u8; 51];
-        if !lines::read_line(&mut input, &mut lengths) {
-            break;
-        }
-        t = lines::count(t, 0, line_agrees(&mut input, &lengths));
-    }
-    lines::report(&mut output, b"polyhedron: ", t, 0)?;
+    let tally = lines::replay(&mut rt.reader(), |input, tally| {
+        let lengths: [u8; 51] = lines::read(input)?;
+        tally.count(Some(0), next_agrees(input, &lengths));
+        Some(())
+    });
+    tally.report(&mut output, 0, &["polyhedron"])?;
     if limits() {
-        output.write_all(b"limits of V and F: as they should be\n")?;
+        writeln!(output, "limits of V and F: as they should be")?;
     }
     Ok(())
 }

@@ -5,27 +5,26 @@
 
 use newtonian::Field;
 use std::io;
-use test_replay::{lines, vector_at, word_at};
+use test_replay::{lines, runs, vector_at};
 
 // Whether the line's answer is the answer to its arguments.
-fn agrees(s: &[u8]) -> bool {
-    let answer = prism::prism(vector_at(s, 0), vector_at(s, 3), vector_at(s, 6));
+fn agrees(line: &[u8]) -> Option<bool> {
+    let answer = prism::prism(
+        vector_at(line, 0)?,
+        vector_at(line, 3)?,
+        vector_at(line, 6)?,
+    );
     match answer {
-        Field::At(f) => test_replay::runs::same_field(s, 9, f),
-        Field::Refused(r) => word_at(s, 9) == test_replay::refused(r),
+        Field::At(f) => Some(runs::same_field(line, 9, f)),
+        Field::Refused(r) => Some(runs::same_words(line, 9, &[test_replay::refused(r)])),
     }
 }
 
 fn main(rt: HostRuntime) -> io::Result<()> {
-    let mut input = rt.reader();
-    let mut output = io::writer(&rt);
-    let mut t = lines::nothing();
-    for _ in 0..1000000usize {
-        let mut line = [0u8; 374];
-        if !lines::read_line(&mut input, &mut line) {
-            break;
-        }
-        t = lines::count(t, 0, agrees(&line));
-    }
-    lines::report(&mut output, b"prism: ", t, 0)
+    let tally = lines::replay(&mut rt.reader(), |input, tally| {
+        let line: [u8; 374] = lines::read(input)?;
+        tally.count(Some(0), agrees(&line));
+        Some(())
+    });
+    tally.report(&mut io::writer(&rt), 0, &["prism"])
 }

@@ -5,141 +5,85 @@
 // counts. Prints how many profiles were compared, with all of work and fields, and how many differ.
 #![tactic(auto)]
 
-ghost use Rattle.std.specs.Prelude.{◌≡◌, ◌≤◌, length};
+ghost use Rattle.std.specs.Prelude.{◌≤◌};
 
 use refusals::Cause;
 use std::io;
 use std::io::{Read, Write};
-use test_replay::{Tally, lines, runs, word_at};
+use test_records::Profile;
+use test_replay::lines::Tally;
+use test_replay::{lines, runs, word_at};
 
 // The line of a profile: eight numbers and seventeen places, each of 17 bytes.
 const PROFILE_BYTES: usize = 425;
 
-// Whether the answer to a profile of these lists, work and fields are right.
-fn given_agrees(
-    body: &[u8],
-    line: &[u8],
-    stations: &[f64],
-    verts: &[f64],
-    faces: &[u32],
-    work: &mut [u32],
-    fields: &mut [f64],
-) -> bool
-    requires { (length verts.now ≤ 1000) × (length faces.now ≤ 1000) × (length work.old ≤ 1000) × (length fields.old ≤ 1000) }
-{
+// Whether the answer to a profile, work and fields are right.
+fn agrees(given: &Profile) -> Option<bool> {
+    let mut verts = [0.0; 1000];
+    let mut faces = [0; 1000];
+    let mut stations = [0.0; 1000];
+    let mut work = [0; 1000];
+    let mut fields = [0.0; 1000];
+    let verts = &mut verts[..given.vertices];
+    let faces = &mut faces[..given.faces];
+    let stations = &mut stations[..runs::length_at(given.line, 0)];
+    let work = &mut work[..runs::length_at(given.line, 1)];
+    let fields = &mut fields[..runs::length_at(given.line, 2)];
+    runs::read_doubles(given.body, 0, verts)?;
+    runs::read_indices(given.body, given.vertices, faces)?;
+    given.read_stations(stations)?;
     runs::mark(work);
     test_records::mark_fields(fields);
     let cause = profile::profile(stations, verts, faces, work, fields);
-    if !test_records::same_cause(line, cause) {
-        return false;
-    }
-    test_records::same_lists(
+    Some(given.same_cause(cause) && given.same_lists(work, fields))
+}
+
+// The same of the next line, a profile of the body; one that is not there differs.
+fn next_agrees(input: &mut impl Read, body: &[u8], vertices: usize, faces: usize) -> Option<bool>
+    requires { (vertices ≤ 1000) × (faces ≤ 1000) }
+{
+    let line: [u8; PROFILE_BYTES] = lines::read(input)?;
+    agrees(&Profile {
         body,
-        line,
-        verts.len() + faces.len(),
-        faces.len(),
-        work,
-        fields,
-    )
-}
-
-// Whether a profile is right. The lists are read into room of their lengths.
-fn answers(
-    body: &[u8],
-    line: &[u8],
-    stations: &mut [f64],
-    verts: &mut [f64],
-    faces: &mut [u32],
-    work: &mut [u32],
-    fields: &mut [f64],
-) -> bool
-    requires { (length stations.old ≤ 1000) × (length verts.old ≤ 1000) × (length faces.old ≤ 1000) × (length work.old ≤ 1000) × (length fields.old ≤ 1000) }
-{
-    runs::read_doubles(body, 0, verts);
-    runs::read_indices(body, verts.len(), faces);
-    test_records::read_stations(body, verts.len() + 2 * faces.len(), line, stations);
-    given_agrees(body, line, stations, verts, faces, work, fields)
-}
-
-fn agrees(body: &[u8], line: &[u8], v: usize, f: usize) -> bool
-    requires { (v ≤ 1000) × (f ≤ 1000) }
-{
-    let s = runs::length_at(line, 0);
-    let n = runs::length_at(line, 1);
-    let o = runs::length_at(line, 2);
-    let mut verts = runs::vertex_room();
-    let mut faces = runs::face_room();
-    let mut stations = runs::vertex_room();
-    let mut work = runs::face_room();
-    let mut fields = runs::vertex_room();
-    answers(
-        body,
-        line,
-        &mut stations[..s],
-        &mut verts[..v],
-        &mut faces[..f],
-        &mut work[..n],
-        &mut fields[..o],
-    )
-}
-
-// The next line, a profile of the body; one that is not there differs.
-fn profile_agrees(input: &mut impl Read, body: &[u8], v: usize, f: usize) -> bool
-    requires { (v ≤ 1000) × (f ≤ 1000) }
-{
-    let mut line = [0u8; PROFILE_BYTES];
-    if !lines::read_line(input, &mut line) {
-        return false;
-    }
-    agrees(body, &line, v, f)
-}
-
-// The profiles of a body, as many as its first line says.
-fn profiles_of(input: &mut impl Read, t: Tally, head: &[u8], body: &[u8]) -> Tally {
-    let v = runs::length_at(head, 0);
-    let f = runs::length_at(head, 1);
-    let mut r = t;
-    for _ in 0..runs::length_at(head, 3) {
-        r = lines::count(r, 0, profile_agrees(input, body, v, f));
-    }
-    r
+        line: &line,
+        vertices,
+        faces,
+    })
 }
 
 // A length that a list gives, up to 3800: so many numbers fill a large buffer.
 fn body_length(head: &[u8]) -> usize
     ensures { result ≤ 3800 }
 {
-    let w = word_at(head, 2);
-    if w <= 3800 { w as usize } else { 3800 }
+    word_at(head, 2).map_or(3800, |w| w.min(3800) as usize)
 }
 
-// Reads as many bytes as `body` has, a body's second line, then its profiles.
-fn body_of(input: &mut impl Read, t: Tally, head: &[u8], body: &mut [u8]) -> Tally {
-    if !lines::read_line(input, body) {
-        return lines::count(t, 0, false);
+// The body that a first line begins, and its profiles, as many as that line says. A body that is not there differs.
+fn replay_body(input: &mut impl Read, tally: &mut Tally, head: &[u8]) {
+    let mut bytes = [0; 65536];
+    let body = &mut bytes[..17 * body_length(head)];
+    if input.read_exact(body).is_err() {
+        tally.count(Some(0), None);
+        return;
     }
-    profiles_of(input, t, head, body)
+    for _ in 0..runs::length_at(head, 3) {
+        let vertices = runs::length_at(head, 0);
+        let faces = runs::length_at(head, 1);
+        tally.count(Some(0), next_agrees(input, body, vertices, faces));
+    }
 }
 
-fn replay(input: &mut impl Read, t: Tally, head: &[u8]) -> Tally {
-    let mut bytes = [0u8; 65536];
-    body_of(input, t, head, &mut bytes[..17 * body_length(head)])
-}
+// The numbers of one station more than the limit allows.
+const STATION_ROOM: usize = 196611;
 
-fn station_room() -> [f64; 196611]
-    ensures { 196611 ≡ length result }
-{
-    [0.0; 196611]
-}
-
-// The number of the refusal of v zeros as vertices, f zeros as faces and s zeros as stations, with no room for a record; 0 if there is none.
-fn zeros(v: usize, f: usize, s: usize) -> u32
+// The number of the refusal of v zeros as vertices, f zeros as faces and s zeros as stations, with no room for a record, if there is one.
+fn zeros(v: usize, f: usize, s: usize) -> Option<u32>
     requires { (v ≤ 60003) × (f ≤ 98307) × (s ≤ 196611) }
 {
-    let verts = runs::vertex_room();
-    let faces = runs::face_room();
-    let stations = station_room();
-    let mut work = runs::face_room();
+    let verts = [0.0; runs::VERTEX_ROOM];
+    let faces = [0; runs::FACE_ROOM];
+    let stations = [0.0; STATION_ROOM];
+    let mut work = [0; runs::FACE_ROOM];
     let mut fields = [0.0; 12];
     match profile::profile(
         &stations[..s],
@@ -148,46 +92,32 @@ fn zeros(v: usize, f: usize, s: usize) -> u32
         &mut work,
         &mut fields,
     ) {
-        Cause::None => 0,
-        Cause::Refused(r) => refusals::number(r),
+        Cause::None => None,
+        Cause::Refused(r) => Some(refusals::number(r)),
     }
 }
 
 // V = 20,000, F = 32,768 and S = 65,536 are within the limits: no faces is 8, zeros as faces are flipped, 5, and for a station there is no room, 12.
 // One more of each is 2.
 fn limits() -> bool {
-    if zeros(60000, 0, 0) != 8 {
-        return false;
-    }
-    if zeros(60003, 0, 0) != 2 {
-        return false;
-    }
-    if zeros(60000, 98304, 0) != 5 {
-        return false;
-    }
-    if zeros(60000, 98307, 0) != 2 {
-        return false;
-    }
-    if zeros(60000, 98304, 196608) != 12 {
-        return false;
-    }
-    zeros(60000, 98304, 196611) == 2
+    zeros(60000, 0, 0) == Some(8)
+        && zeros(60003, 0, 0) == Some(2)
+        && zeros(60000, 98304, 0) == Some(5)
+        && zeros(60000, 98307, 0) == Some(2)
+        && zeros(60000, 98304, 196608) == Some(12)
+        && zeros(60000, 98304, 196611) == Some(2)
 }
 
 fn main(rt: HostRuntime) -> io::Result<()> {
-    let mut input = rt.reader();
     let mut output = io::writer(&rt);
-    let mut t = lines::nothing();
-    for _ in 0..1000000usize {
-        let mut head = [0u8; 68];
-        if !lines::read_line(&mut input, &mut head) {
-            break;
-        }
-        t = replay(&mut input, t, &head);
-    }
-    lines::report(&mut output, b"profile: ", t, 0)?;
+    let tally = lines::replay(&mut rt.reader(), |input, tally| {
+        let head: [u8; 68] = lines::read(input)?;
+        replay_body(input, tally, &head);
+        Some(())
+    });
+    tally.report(&mut output, 0, &["profile"])?;
     if limits() {
-        output.write_all(b"limits of V, F and S: as they should be\n")?;
+        writeln!(output, "limits of V, F and S: as they should be")?;
     }
     Ok(())
 }

@@ -6,20 +6,16 @@ use std::io;
 use test_replay::{double_at, lines, word_at};
 
 // Whether the line's second number is the root of the first.
-fn agrees(s: &[u8]) -> bool {
-    doubles::to_bits(roots::root(double_at(s, 0))) == word_at(s, 1)
+fn agrees(line: &[u8]) -> Option<bool> {
+    let root = roots::root(double_at(line, 0)?);
+    Some(word_at(line, 1)? == doubles::to_bits(root))
 }
 
 fn main(rt: HostRuntime) -> io::Result<()> {
-    let mut input = rt.reader();
-    let mut output = io::writer(&rt);
-    let mut t = lines::nothing();
-    for _ in 0..1000000usize {
-        let mut line = [0u8; 34];
-        if !lines::read_line(&mut input, &mut line) {
-            break;
-        }
-        t = lines::count(t, 0, agrees(&line));
-    }
-    lines::report(&mut output, b"root: ", t, 0)
+    let tally = lines::replay(&mut rt.reader(), |input, tally| {
+        let line: [u8; 34] = lines::read(input)?;
+        tally.count(Some(0), agrees(&line));
+        Some(())
+    });
+    tally.report(&mut io::writer(&rt), 0, &["root"])
 }

@@ -1,10 +1,10 @@
 use Rattle.recheck_line.specs.Line.{input_line}
 use Rattle.recheck_line.proofs.recheck_line.Goals as goal
 
-pub returns-in-Bytes : goal.returns-in-Bytes
+pub returns-in-Some : goal.returns-in-Some
 unfolding input_line
-returns-in-Bytes c = rw c.in-Bytes.is c.bytes_line.ensures
+returns-in-Some c = rw c.in-Some.is c.bytes_line.ensures
 
-pub returns-in-Failed : goal.returns-in-Failed
+pub returns-in-None : goal.returns-in-None
 unfolding input_line
-returns-in-Failed c = rw c.in-Failed.is c.verdict_line.ensures
+returns-in-None c = rw c.in-None.is c.verdict_line.ensures

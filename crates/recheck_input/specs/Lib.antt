@@ -1,2 +1,0 @@
--- What came of an input.
-pub mod CameWithin
