@@ -42,7 +42,7 @@ edge_ext p q = cc
 -- ---- what the count says
 
 module _ (es : List Edge) (held : Edges) (h : HoldsEdges es held) where
-  held_few : held.count ≤ edge_limit → length es ≤ edge_limit
+  pub held_few : held.count ≤ edge_limit → length es ≤ edge_limit
   held_few l = ⊎_elim (λ p. absurd (omega (arith, h.many p))) (λ p. p) (below? edge_limit (length es))
 
   held_count : held.count ≤ edge_limit → held.count ≡ length es
