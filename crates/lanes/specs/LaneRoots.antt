@@ -1,4 +1,4 @@
--- What is known of a lane on the way to its root. A reader of what `roots_8` and `roots_24` promise does not need it. Definitions only.
+-- What is known of a lane on the way to its root. A reader of what `roots` promises does not need it. Definitions only.
 use Rattle.std.specs.Prelude.{◌≡◌, ℕ, ◌*◌, ◌^◌, ◌<◌, ◌≤◌, T, List, length, slice_index, to_bits, Float}
 use Rattle.std.specs.Float.{binary64}
 use Rattle.std.specs.Float.Ieee.{fits}

@@ -1,43 +1,44 @@
--- A counting loop that sets vector k of three arrays to g k. States: `no-vectors`, `one-vector`, `all-vectors`: how it begins, goes on and ends; `one-over`: how it goes on where it
--- divides the vectors in place. Assumes nothing.
-use mathlib.Core.Path.{◌≡◌, ap}
-use mathlib.Core.List.{List}
+-- A counting loop that sets vector k of several to g k. States: `no_vectors`, `one-vector`, `all-vectors`, `all-written`: how it begins, goes on and ends; `kept-vector`: what it has
+-- not set. Assumes nothing.
+use mathlib.Core.Path.{◌≡◌, sym, ap, ◌∙◌}
 use Prim.Native.Nat.{ℕ, ◌+◌, ◌≤◌, ◌<◌}
 use native.Mathlib.Omega.{arith}
-use lib.Ieee.{Float}
-use lib.ListN.{length, set}
-use Rattle.doubles.specs.Rounded.{◌⊘◌}
-use Rattle.newtonian.specs.Vectors.{over}
+use lib.ListN.{length, set, length-set}
 use Rattle.newtonian.specs.declared.Vector.{Vector}
-use Rattle.lanes.specs.Lanes.{lane}
 use Rattle.lanes.proofs.Filling.{Filled, all-filled, none_filled, one-filled}
 use Rattle.polyhedron_faces.specs.Faces.{vector_at}
-use Rattle.polyhedron_faces.specs.Parts.{Vectors}
+use Rattle.polyhedron_faces.specs.Held.{Holds, HasLanes}
+use Rattle.polyhedron_faces.specs.declared.Vectors.{Vectors}
 
-pub record FilledVectors (n : ℕ) (g : ℕ → Vector) (x₀ y₀ z₀ : List Float) (k : ℕ) (x y z : List Float) : Type 0 where
-  pub on_x : Filled n (λ (i : ℕ). (g i).x) x₀ k x
-  pub on_y : Filled n (λ (i : ℕ). (g i).y) y₀ k y
-  pub on_z : Filled n (λ (i : ℕ). (g i).z) z₀ k z
+-- of n vectors, those below k are g's, and the rest are v₀'s. Outside this crate the first write shows that there are n.
+pub record FilledVectors (n : ℕ) (g : ℕ → Vector) (v₀ : Vectors n) (k : ℕ) (v : Vectors n) : Type 0 where
+  pub whole : 0 < k → HasLanes n v
+  pub on_x : length v.x ≡ n → Filled n (λ (i : ℕ). (g i).x) v₀.x k v.x
+  pub on_y : length v.y ≡ n → Filled n (λ (i : ℕ). (g i).y) v₀.y k v.y
+  pub on_z : length v.z ≡ n → Filled n (λ (i : ℕ). (g i).z) v₀.z k v.z
 
-pub no_vectors : {n : ℕ} {g : ℕ → Vector} {x y z : List Float} → length x ≡ n → length y ≡ n → length z ≡ n → FilledVectors n g x y z 0 x y z
-no_vectors a b c = record { on_x = none_filled a; on_y = none_filled b; on_z = none_filled c }
+-- v with w at k
+abbrev pub set_vector : {n : ℕ} → Vectors n → ℕ → Vector → Vectors n
+set_vector v k w = record { x = set v.x k w.x; y = set v.y k w.y; z = set v.z k w.z }
 
-pub one-vector : {n k : ℕ} {g : ℕ → Vector} {x₀ y₀ z₀ x y z : List Float} {v : Vector} → FilledVectors n g x₀ y₀ z₀ k x y z → k < n → v ≡ g k
-    → FilledVectors n g x₀ y₀ z₀ (k + 1) (set x k v.x) (set y k v.y) (set z k v.z)
-one-vector f l e = record {
-  on_x = one-filled f.on_x l (ap (λ (a : Vector). a.x) e);
-  on_y = one-filled f.on_y l (ap (λ (a : Vector). a.y) e);
-  on_z = one-filled f.on_z l (ap (λ (a : Vector). a.z) e);
-}
+pub no_vectors : {n : ℕ} {g : ℕ → Vector} {v : Vectors n} → FilledVectors n g v 0 v
+no_vectors = record { whole = λ l. absurd (omega arith); on_x = none_filled; on_y = none_filled; on_z = none_filled }
 
-pub one-over : (l : List Float) {n k : ℕ} {x₀ y₀ z₀ x y z : List Float} → FilledVectors n (λ (i : ℕ). over (vector_at x₀ y₀ z₀ i) (lane l i)) x₀ y₀ z₀ k x y z → k < n
-    → FilledVectors n (λ (i : ℕ). over (vector_at x₀ y₀ z₀ i) (lane l i)) x₀ y₀ z₀ (k + 1) (set x k (lane x k ⊘ lane l k)) (set y k (lane y k ⊘ lane l k)) (set z k (lane z k ⊘ lane l k))
-unfolding over
-one-over l {n} {k} f h = let d = lane l k in record {
-  on_x = one-filled f.on_x h (ap (λ (a : Float). a ⊘ d) (f.on_x.rest k (omega arith)));
-  on_y = one-filled f.on_y h (ap (λ (a : Float). a ⊘ d) (f.on_y.rest k (omega arith)));
-  on_z = one-filled f.on_z h (ap (λ (a : Float). a ⊘ d) (f.on_z.rest k (omega arith)));
-}
+module _ {n : ℕ} {g : ℕ → Vector} {v₀ v : Vectors n} where
+  pub one-vector : {k : ℕ} {w : Vector} → FilledVectors n g v₀ k v → k < n → HasLanes n (set_vector v k w) → w ≡ g k → FilledVectors n g v₀ (k + 1) (set_vector v k w)
+  one-vector {k} {w} f l s e = record {
+    whole = λ m. s;
+    on_x = λ m. one-filled (f.on_x (sym (length-set v.x k w.x) ∙ m)) l (ap (λ (a : Vector). a.x) e);
+    on_y = λ m. one-filled (f.on_y (sym (length-set v.y k w.y) ∙ m)) l (ap (λ (a : Vector). a.y) e);
+    on_z = λ m. one-filled (f.on_z (sym (length-set v.z k w.z) ∙ m)) l (ap (λ (a : Vector). a.z) e);
+  }
 
-pub all_vectors : {n k : ℕ} {g : ℕ → Vector} {x₀ y₀ z₀ x y z : List Float} → FilledVectors n g x₀ y₀ z₀ k x y z → n ≤ k → Vectors n g x y z
-all_vectors f l = record { on_x = all-filled f.on_x l; on_y = all-filled f.on_y l; on_z = all-filled f.on_z l }
+  pub kept-vector : {k : ℕ} → FilledVectors n g v₀ k v → HasLanes n v → (j : ℕ) → k ≤ j → vector_at v.x v.y v.z j ≡ vector_at v₀.x v₀.y v₀.z j
+  kept-vector f s j l = rw ((f.on_x s.0).rest j l, (f.on_y s.1).rest j l, (f.on_z s.2).rest j l)
+
+  pub all-vectors : {k : ℕ} → FilledVectors n g v₀ k v → n ≤ k → HasLanes n v → Holds n g v
+  all-vectors f l s = record { on_x = all-filled (f.on_x s.0) l; on_y = all-filled (f.on_y s.1) l; on_z = all-filled (f.on_z s.2) l }
+
+  -- the same of at least one vector: the loop has written
+  pub all-written : {k : ℕ} → FilledVectors n g v₀ k v → n ≤ k → 0 < n → Holds n g v
+  all-written f l m = all-vectors f l (f.whole (omega arith))

@@ -1,5 +1,7 @@
--- Eight faces side by side in flat arrays: corner or side j of the face in lane k stands at 8 j + k. Definitions only.
-use Rattle.std.specs.Prelude.{◌≡◌, List, [], ℕ, ◌+◌, ◌%◌, ◌<◌, Float, length, get_or}
+-- Eight faces side by side: corner or side j of the face in lane k stands at 8 j + k. Definitions only.
+use Rattle.std.specs.Prelude.{◌≡◌, List, ℕ, ◌+◌, ◌%◌, ◌<◌, Float, slice_index_or}
+use Rattle.std.specs.Float.{nan}
+use Rattle.newtonian.specs.Vectors.{diagonal}
 use Rattle.newtonian.specs.declared.Vector.{Vector}
 use Rattle.newtonian.specs.declared.Hessian.{Hessian}
 use Rattle.polyhedron_edge_terms.specs.EdgeTerms.{dyad}
@@ -9,29 +11,9 @@ use Rattle.lanes.specs.Lanes.{lane}
 abbrev pub vector_at : List Float → List Float → List Float → ℕ → Vector
 vector_at x y z k = record { x = lane x k; y = lane y k; z = lane z k }
 
--- the matrix of nine numbers, row by row
-abbrev pub matrix_of : List Float → Hessian
-matrix_of w = record {
-  x = record { x = lane w 0; y = lane w 1; z = lane w 2 };
-  y = record { x = lane w 3; y = lane w 4; z = lane w 5 };
-  z = record { x = lane w 6; y = lane w 7; z = lane w 8 };
-}
-
-abbrev pub matrix_at : List (List Float) → ℕ → Hessian
-matrix_at w k = matrix_of (get_or w k [])
-
--- the lengths of the arrays that hold eight faces
-pub record Sizes (cx cy cz nx ny nz mx my mz e : List Float) : Type 0 where
-  pub of_cx : length cx ≡ 24
-  pub of_cy : length cy ≡ 24
-  pub of_cz : length cz ≡ 24
-  pub of_nx : length nx ≡ 8
-  pub of_ny : length ny ≡ 8
-  pub of_nz : length nz ≡ 8
-  pub of_mx : length mx ≡ 24
-  pub of_my : length my ≡ 24
-  pub of_mz : length mz ≡ 24
-  pub of_e : length e ≡ 24
+-- matrix k of a list
+abbrev pub matrix_at : List Hessian → ℕ → Hessian
+matrix_at w k = slice_index_or w k (diagonal nan)
 
 -- the lanes hold the faces t 0, t 1, .., t 7: their corners, their unit normals, their sides' unit normals and lengths
 pub record Describes (t : ℕ → Triangle) (cx cy cz nx ny nz mx my mz e : List Float) : Type 0 where
@@ -51,6 +33,6 @@ abbrev pub side_dyad : List Float → List Float → List Float → List Float �
 side_dyad nx ny nz mx my mz i = dyad (vector_at nx ny nz (i % 8)) (vector_at mx my mz i)
 
 -- ds holds the dyads of the sides, df those of the faces
-pub record Dyads (nx ny nz mx my mz : List Float) (ds df : List (List Float)) : Type 0 where
+pub record Dyads (nx ny nz mx my mz : List Float) (ds df : List Hessian) : Type 0 where
   pub of_side : (i : ℕ) → i < 24 → matrix_at ds i ≡ side_dyad nx ny nz mx my mz i
   pub of_face : (k : ℕ) → k < 8 → matrix_at df k ≡ face_dyad nx ny nz k

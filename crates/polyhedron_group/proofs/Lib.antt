@@ -1,5 +1,4 @@
--- Laws of groups of faces. Another crate sees Places: which face stands in a lane, and NewArrays: arrays for a group.
+-- Laws of groups of faces. Another crate sees Places: which face stands in a lane.
 pub mod Places
 mod Describing
 mod FillingDyads
-pub mod NewArrays

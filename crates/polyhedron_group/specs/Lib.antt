@@ -1,2 +1,3 @@
--- Eight faces of a mesh.
+-- Eight faces of a mesh. Held says what a group holds.
 pub mod Group
+pub mod Held

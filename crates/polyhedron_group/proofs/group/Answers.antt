@@ -6,28 +6,18 @@ use Rattle.polyhedron_faces.proofs.SidesMade.{units}
 use Rattle.polyhedron_group.proofs.group.Goals as goal
 
 pub corners-requires : goal.corners-requires
-corners-requires c =
-    let w = c.requires.sizes in
-    record { body = (c.requires.body.0, omega (arith, c.requires.body.1, c.if-n-lt-FEWEST.false)); cx_len = (w.of_cx, w.of_cy, w.of_cz) }
-
-pub sides-requires : goal.sides-requires
-sides-requires c = let w = c.requires.sizes in (w.of_mx, w.of_my, w.of_mz, w.of_e)
-
-pub side_dyads-requires : goal.side_dyads-requires
-side_dyads-requires c = c.requires.ds_len.0
-
-pub face_dyads-requires : goal.face_dyads-requires
-face_dyads-requires c = c.requires.ds_len.1
+corners-requires c = (c.requires.0, omega (arith, c.requires.1, c.if-n-lt-FEWEST.false))
 
 pub returns-then-n-lt-FEWEST : goal.returns-then-n-lt-FEWEST
-returns-then-n-lt-FEWEST c = record { describes = λ l. absurd (omega (arith, l, c.if-n-lt-FEWEST.true)); dyads = λ l. absurd (omega (arith, l, c.if-n-lt-FEWEST.true)) }
+returns-then-n-lt-FEWEST c = λ l. absurd (omega (arith, l, c.if-n-lt-FEWEST.true))
 
 pub returns : goal.returns
 returns c =
+    λ l.
     let a = c.args in
-    let g = raw_normal c.corners.new.cx c.corners.new.cy c.corners.new.cz in record {
-      describes = λ e. describes a.verts.now a.faces.now a.first c.corners.ensures
-          (units g c.raw_normals.ensures.lanes c.roots_8.ensures c.raw_normals.ensures.vectors c.units_8.ensures)
-          c.sides.ensures.vectors c.sides.ensures.lanes;
-      dyads = λ e. record { of_side = c.side_dyads.ensures; of_face = c.face_dyads.ensures };
+    let v = c.corners.new.c in
+    let n = units (raw_normal v.x v.y v.z) c.raw_normals.ensures.lanes c.roots.ensures c.raw_normals.ensures.vectors c.units.ensures in
+    record {
+      faces = describes a.verts.now a.faces.now a.first c.corners.ensures n c.sides.ensures.vectors c.sides.ensures.lanes;
+      dyads = record { of_side = c.side_dyads.ensures; of_face = c.face_dyads.ensures };
     }

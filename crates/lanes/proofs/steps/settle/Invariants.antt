@@ -1,12 +1,12 @@
--- `lanes::twenty_four::settle` meets its contract. Assumes nothing.
+-- `lanes::steps::settle` meets its contract. Assumes nothing.
 use Rattle.std.proofs.Common.{ℕ, ◌-◌}
 use Rattle.roots.specs.Root.{Root}
 use Rattle.lanes.specs.Lanes.{lane}
 use Rattle.lanes.proofs.Filling.{Filled}
-use Rattle.lanes.proofs.twenty_four.settle.Given as goal
+use Rattle.lanes.proofs.steps.settle.Given as goal
 
 abbrev pub invariant-loop-k : goal.invariant-loop-k
-invariant-loop-k l = Filled 24 (λ (j : ℕ). Root (lane l.x j)) l.initial.r l.k l.r
+invariant-loop-k g l = Filled g.row.N (λ (j : ℕ). Root (lane l.x j)) l.initial.r l.k l.r
 
 abbrev pub decreases-loop-k : goal.decreases-loop-k
-decreases-loop-k l = 24 - l.k
+decreases-loop-k g l = g.row.N - l.k

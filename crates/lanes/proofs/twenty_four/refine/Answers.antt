@@ -1,6 +1,0 @@
--- `lanes::twenty_four::refine` meets its contract. Assumes nothing.
-use Rattle.std.proofs.Common.{length-set}
-use Rattle.lanes.proofs.twenty_four.refine.Goals as goal
-
-pub loop-k-preserved : goal.loop-k-preserved
-loop-k-preserved c = simp length-set c.loop-k.invariant

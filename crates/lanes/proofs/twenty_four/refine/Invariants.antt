@@ -1,9 +1,0 @@
--- `lanes::twenty_four::refine` meets its contract. Assumes nothing.
-use Rattle.std.proofs.Common.{◌≡◌, ◌-◌, length}
-use Rattle.lanes.proofs.twenty_four.refine.Given as goal
-
-abbrev pub invariant-loop-k : goal.invariant-loop-k
-invariant-loop-k l = length l.r ≡ 24
-
-abbrev pub decreases-loop-k : goal.decreases-loop-k
-decreases-loop-k l = 24 - l.k
