@@ -1,8 +1,7 @@
--- States: `atan-lane`: atan by lanes is `atan`, of a NaN too; `atan-parts`: its last step; `reduced-is`: a reduction. Assumes nothing.
+-- States: `atan-lane`: atan by lanes is `atan`, of a NaN too; `atan-parts`: its last step. Assumes nothing.
 use mathlib.Core.Path.{◌≡◌, refl, ◌∙◌}
-use mathlib.Core.Bool.{cond}
 use lib.Ieee.{Float, nan, inf, fin, of_bits, neg, sub, mul, div, lt, le, is_nan}
-use Rattle.doubles.specs.Rounded.{◌⊕◌, ◌⊗◌, ◌⊘◌}
+use Rattle.doubles.specs.Rounded.{◌⊕◌, ◌⊗◌}
 use Rattle.doubles.specs.Constants.{1·0}
 use Rattle.doubles.specs.Magnitude.{abs}
 use Rattle.carlson.specs.Rc.{rc_value}
@@ -20,10 +19,6 @@ unfolding atan is_nan
 atan-lane nan = of_nan
 atan-lane (inf s) = atan-is (inf s) refl
 atan-lane (fin s m e) = atan-is (fin s m e) refl
-
-pub reduced-is : (z : Float) (a : Float) → a ≡ abs z → cond (le a 1·0) z (1·0 ⊘ z) ≡ reduced z
-unfolding reduced
-reduced-is z a e = rw e
 
 pub atan_parts : {w r o y v : Float} (z : Float) → w ≡ reduced z → o ≡ 1·0 → y ≡ 1·0 ⊕ reduced z ⊗ reduced z → r ≡ rc_number o y → v ≡ atan_from z (w ⊗ r) → v ≡ atan z
 atan_parts {w} {r} z ew eo ey er ev = let e : atan_from z (w ⊗ r) ≡ atan_from z (angle (reduced z)) = rw (er, eo, ey, ew) in ev ∙ e ∙ atan-lane z

@@ -1,37 +1,24 @@
-// atan of 24 numbers side by side.
+// atan of several numbers side by side. A loop walks several arrays in step, by an index from 0 to N - 1: of one body over fixed arrays the
+// compiler makes packed instructions, and a chain of zipped iterators would be no plainer.
 #![tactic(auto)]
 
-ghost use Rattle.std.specs.Prelude.{◌≡◌, ℕ, length};
+ghost use Rattle.std.specs.Prelude.{ℕ};
 ghost use Rattle.doubles.specs.Rounded.{◌⊕◌, ◌⊗◌};
 ghost use Rattle.doubles.specs.Constants.{1·0};
 ghost use Rattle.carlson.specs.Arctangent.{atan};
 ghost use Rattle.lanes.specs.Lanes.{lane, Lanes};
-ghost use Rattle.lanes_atan2.specs.AtanLanes.{reduced, signed, atan_from};
+ghost use Rattle.lanes_atan2.specs.AtanLanes.{reduced};
 
 use doubles::abs;
 use lanes::pick;
-
-// w with the sign of z, where z is not zero.
-fn signed(z: f64, w: f64) -> f64
-    ensures { result ≡ signed z w }
-{
-    pick(z < 0.0, -w, w)
-}
-
-// atan z, from v = w R_C(1, 1 + w²) where w is z or 1/z.
-fn atan_from(z: f64, v: f64) -> f64
-    ensures { result ≡ atan_from z v }
-{
-    pick(abs(z) <= 1.0, v, signed(z, doubles::FRAC_PI_2) - v)
-}
+use lanes_atan2::atan_from;
 
 // w, which is z, or 1/z where |z| is beyond 1, and y = 1 + w² of each lane.
-fn reduce(z: &[f64; 24], w: &mut [f64; 24], y: &mut [f64; 24])
-    requires { (length w.old ≡ 24) × (length y.old ≡ 24) }
-    ensures { (Lanes 24 (λ (k : ℕ). reduced (lane z.now k)) w.new)
-        × (Lanes 24 (λ (k : ℕ). 1·0 ⊕ reduced (lane z.now k) ⊗ reduced (lane z.now k)) y.new) }
+fn reduce<const N: usize>(z: &[f64; N], w: &mut [f64; N], y: &mut [f64; N])
+    ensures { (Lanes N (λ (k : ℕ). reduced (lane z.now k)) w.new)
+        × (Lanes N (λ (k : ℕ). 1·0 ⊕ reduced (lane z.now k) ⊗ reduced (lane z.now k)) y.new) }
 {
-    for k in 0..24usize {
+    for k in 0..N {
         let zk = z[k];
         let wk = pick(abs(zk) <= 1.0, zk, 1.0 / zk);
         w[k] = wk;
@@ -40,17 +27,16 @@ fn reduce(z: &[f64; 24], w: &mut [f64; 24], y: &mut [f64; 24])
 }
 
 // atan of each lane.
-pub fn atan_24(z: &[f64; 24], out: &mut [f64; 24])
-    requires { length out.old ≡ 24 }
-    ensures { Lanes 24 (λ (k : ℕ). atan (lane z.now k)) out.new }
+pub fn atan<const N: usize>(z: &[f64; N], out: &mut [f64; N])
+    ensures { Lanes N (λ (k : ℕ). atan (lane z.now k)) out.new }
 {
-    let one = [1.0; 24];
-    let mut w = [0.0; 24];
-    let mut y = [0.0; 24];
-    let mut r = [0.0; 24];
+    let one = [1.0; N];
+    let mut w = [0.0; N];
+    let mut y = [0.0; N];
+    let mut r = [0.0; N];
     reduce(z, &mut w, &mut y);
-    lanes_rc_24::rc_24(&one, &y, &mut r);
-    for k in 0..24usize {
+    lanes_rc::rc(&one, &y, &mut r);
+    for k in 0..N {
         out[k] = atan_from(z[k], w[k] * r[k]);
     }
 }

@@ -1,7 +1,8 @@
-// ln of 24 numbers side by side.
+// ln of several numbers side by side. A loop walks several arrays in step, by an index from 0 to N - 1: of one body over fixed arrays the
+// compiler makes packed instructions, and a chain of zipped iterators would be no plainer.
 #![tactic(auto)]
 
-ghost use Rattle.std.specs.Prelude.{◌≡◌, true, ℕ, ◌<◌, length};
+ghost use Rattle.std.specs.Prelude.{◌≡◌, true, ℕ, ◌<◌};
 ghost use Rattle.carlson.specs.Logarithm.{ln};
 ghost use Rattle.lanes.specs.Lanes.{lane, Lanes};
 ghost use Rattle.lanes_ln.specs.LnLanes.{Normal, pattern_of, scale_of, fraction_of, scale_at, fraction_at, square_at};
@@ -45,15 +46,14 @@ fn fraction_of(b: u64) -> f64
 }
 
 // k, t and ((1 + t)/2)² of each lane; a yes means that each x is normal and above zero.
-fn split(x: &[f64; 24], s: &mut [f64; 24], t: &mut [f64; 24], h: &mut [f64; 24]) -> bool
-    requires { (length s.old ≡ 24) × (length t.old ≡ 24) × (length h.old ≡ 24) }
-    ensures { (Lanes 24 (λ (k : ℕ). scale_at (lane x.now k)) s.new)
-        × (Lanes 24 (λ (k : ℕ). fraction_at (lane x.now k)) t.new)
-        × (Lanes 24 (λ (k : ℕ). square_at (lane x.now k)) h.new)
-        × (result ≡ true → (k : ℕ) → k < 24 → Normal (lane x.now k)) }
+fn split<const N: usize>(x: &[f64; N], s: &mut [f64; N], t: &mut [f64; N], h: &mut [f64; N]) -> bool
+    ensures { (Lanes N (λ (k : ℕ). scale_at (lane x.now k)) s.new)
+        × (Lanes N (λ (k : ℕ). fraction_at (lane x.now k)) t.new)
+        × (Lanes N (λ (k : ℕ). square_at (lane x.now k)) h.new)
+        × (result ≡ true → (k : ℕ) → k < N → Normal (lane x.now k)) }
 {
     let mut good = true;
-    for k in 0..24usize {
+    for k in 0..N {
         let xk = x[k];
         good = good & is_normal(xk);
         let b = pattern_of(xk);
@@ -67,18 +67,18 @@ fn split(x: &[f64; 24], s: &mut [f64; 24], t: &mut [f64; 24], h: &mut [f64; 24])
 }
 
 // ln of each lane, where the answer is yes; it is yes where each x is normal and above zero. Only what a yes means is promised: after
-// a no the caller takes the logarithms one by one, so that a wrong no would cost time and no answer.
-pub fn ln_24(x: &[f64; 24], out: &mut [f64; 24]) -> bool
-    requires { length out.old ≡ 24 }
-    ensures { result ≡ true → Lanes 24 (λ (k : ℕ). ln (lane x.now k)) out.new }
+// a no the caller takes the logarithms one by one, so that a wrong no would cost time and no answer. The array is lent, and no
+// Option of it returned, so that no lane is copied.
+pub fn ln<const N: usize>(x: &[f64; N], out: &mut [f64; N]) -> bool
+    ensures { result ≡ true → Lanes N (λ (k : ℕ). ln (lane x.now k)) out.new }
 {
-    let mut s = [0.0; 24];
-    let mut t = [0.0; 24];
-    let mut h = [0.0; 24];
-    let mut c = [0.0; 24];
+    let mut s = [0.0; N];
+    let mut t = [0.0; N];
+    let mut h = [0.0; N];
+    let mut c = [0.0; N];
     let good = split(x, &mut s, &mut t, &mut h);
-    lanes_rc_24::rc_24(&h, &t, &mut c);
-    for k in 0..24usize {
+    lanes_rc::rc(&h, &t, &mut c);
+    for k in 0..N {
         out[k] = s[k] * LN_2 + (t[k] - 1.0) * c[k];
     }
     good

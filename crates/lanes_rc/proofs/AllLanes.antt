@@ -2,7 +2,7 @@
 -- where no lane's test holds, and ends after 64 rounds; `all-numbers`: the lanes that it leaves give R_C. Assumes nothing.
 use mathlib.Core.Path.{◌≡◌, refl, sym, ap, ap₂, ◌∙◌}
 use mathlib.Core.List.{List}
-use mathlib.Core.Bool.{Bool, true, false, cond, ◌||◌}
+use mathlib.Core.Bool.{Bool, true, false, cond}
 use Prim.Native.Nat.{ℕ, suc, ◌+◌, ◌-◌, ◌≤◌, ◌<◌, zero-le}
 use native.Mathlib.Omega.{arith}
 use lib.Ieee.{Float}
@@ -13,16 +13,10 @@ use Rattle.carlson.specs.RoundLaws.{none_left}
 use Rattle.carlson.specs.CarlsonLoop.{max_rounds, loop_test}
 use Rattle.carlson.specs.Rc.{duplicate_c, test_c, A₀C, QC}
 use Rattle.carlson.specs.declared.RoundC.{RoundC}
-use Rattle.lists.proofs.Numbers.{true≢false}
 use Rattle.lanes.specs.Lanes.{lane, Lanes}
 use Rattle.lanes_rc.specs.LaneRounds.{States, Ended, round_if, start, after_one, after_all, ending, rc_number}
 use Rattle.lanes_rc.proofs.OneLane.{number_is}
 use Rattle.lanes_rc.proofs.RoundsLast.{one_last, no_more}
-
--- neither test holds
-pub neither : (a b : Bool) → (a || b) ≡ false → (a ≡ false) × (b ≡ false)
-neither false b e = (refl, e)
-neither true b e = absurd (true≢false e)
 
 -- two states that are the same but for their counts
 record Same (d e : RoundC) : Type 0 where

@@ -2,7 +2,7 @@
 // and z stands at k, 8 + k and 16 + k.
 #![tactic(auto)]
 
-ghost use Rattle.std.specs.Prelude.{◌≡◌, true, ◌<◌, length};
+ghost use Rattle.std.specs.Prelude.{◌≡◌, true, ◌<◌};
 ghost use Rattle.newtonian.specs.Fold.{Fold};
 ghost use Rattle.newtonian.specs.Vectors.{zero_field};
 ghost use Rattle.lanes.specs.Lanes.{Lanes};
@@ -65,17 +65,16 @@ fn thrice(d: [f64; 8]) -> [f64; 24]
 
 // The distance of each corner.
 fn distances(x: &[f64; 24], y: &[f64; 24], z: &[f64; 24], d: &mut [f64; 8])
-    requires { length d.old ≡ 8 }
     ensures { Lanes 8 (distance_at x.now y.now z.now) d.new }
 {
     let mut q = [0.0; 8];
-    for k in 0..8usize {
+    for k in 0..8 {
         let xk = x[k];
         let yk = y[k];
         let zk = z[k];
         q[k] = xk * xk + yk * yk + zk * zk;
     }
-    lanes::roots_8(&q, d);
+    lanes::roots(&q, d);
 }
 
 // What the logarithm of a corner is taken of.
@@ -95,10 +94,9 @@ fn arguments(
     r: &[f64; 24],
     v: &mut [f64; 24],
 )
-    requires { length v.old ≡ 24 }
     ensures { Lanes 24 (argument_at p.now hi.now x.now y.now z.now r.now) v.new }
 {
-    for k in 0..24usize {
+    for k in 0..24 {
         v[k] = argument(p[k], hi[k], x[k], y[k], z[k], r[k]);
     }
 }
@@ -113,14 +111,13 @@ fn logarithms(
     r: &[f64; 24],
     l: &mut [f64; 24],
 ) -> bool
-    requires { length l.old ≡ 24 }
     ensures { result ≡ true → Lanes 24 (logarithm_at p.now hi.now x.now y.now z.now r.now) l.new }
 {
     let mut v = [0.0; 24];
     let mut w = [0.0; 24];
     arguments(p, hi, x, y, z, r, &mut v);
-    let good = lanes_ln::ln_24(&v, &mut w);
-    for k in 0..24usize {
+    let good = lanes_ln::ln(&v, &mut w);
+    for k in 0..24 {
         let wk = w[k];
         l[k] = pick(p[k] >= hi[k], -wk, wk);
     }
@@ -128,23 +125,21 @@ fn logarithms(
 }
 
 fn quotients(x: &[f64; 24], y: &[f64; 24], z: &[f64; 24], r: &[f64; 24], q: &mut [f64; 24])
-    requires { length q.old ≡ 24 }
     ensures { Lanes 24 (quotient_at x.now y.now z.now r.now) q.new }
 {
-    for k in 0..24usize {
+    for k in 0..24 {
         q[k] = y[k] * z[k] / (x[k] * r[k]);
     }
 }
 
 fn angles(x: &[f64; 24], y: &[f64; 24], z: &[f64; 24], r: &[f64; 24], a: &mut [f64; 24])
-    requires { length a.old ≡ 24 }
     ensures { Lanes 24 (angle_at x.now y.now z.now r.now) a.new }
 {
     let mut q = [0.0; 24];
     let mut t = [0.0; 24];
     quotients(x, y, z, r, &mut q);
-    lanes_atan::atan_24(&q, &mut t);
-    for k in 0..24usize {
+    lanes_atan::atan(&q, &mut t);
+    for k in 0..24 {
         a[k] = pick(y[k] * z[k] == 0.0, 0.0, t[k]);
     }
 }

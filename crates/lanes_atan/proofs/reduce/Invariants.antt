@@ -8,8 +8,8 @@ use Rattle.lanes_atan2.specs.AtanLanes.{reduced}
 use Rattle.lanes_atan.proofs.reduce.Given as goal
 
 abbrev pub invariant-loop-k : goal.invariant-loop-k
-invariant-loop-k l =
-    (Filled 24 (λ (j : ℕ). reduced (lane l.z j)) l.initial.w l.k l.w) × (Filled 24 (λ (j : ℕ). 1·0 ⊕ reduced (lane l.z j) ⊗ reduced (lane l.z j)) l.initial.y l.k l.y)
+invariant-loop-k g l =
+    (Filled g.row.N (λ (j : ℕ). reduced (lane l.z j)) l.initial.w l.k l.w) × (Filled g.row.N (λ (j : ℕ). 1·0 ⊕ reduced (lane l.z j) ⊗ reduced (lane l.z j)) l.initial.y l.k l.y)
 
 abbrev pub decreases-loop-k : goal.decreases-loop-k
-decreases-loop-k l = 24 - l.k
+decreases-loop-k g l = g.row.N - l.k

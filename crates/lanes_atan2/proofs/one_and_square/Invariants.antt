@@ -7,7 +7,7 @@ use Rattle.lanes.proofs.Filling.{Filled}
 use Rattle.lanes_atan2.proofs.one_and_square.Given as goal
 
 abbrev pub invariant-loop-k : goal.invariant-loop-k
-invariant-loop-k l = Filled 8 (λ (j : ℕ). 1·0 ⊕ lane l.w j ⊗ lane l.w j) l.initial.y l.k l.y
+invariant-loop-k g l = Filled g.row.N (λ (j : ℕ). 1·0 ⊕ lane l.w j ⊗ lane l.w j) l.initial.y l.k l.y
 
 abbrev pub decreases-loop-k : goal.decreases-loop-k
-decreases-loop-k l = 8 - l.k
+decreases-loop-k g l = g.row.N - l.k

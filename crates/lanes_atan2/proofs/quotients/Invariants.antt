@@ -9,7 +9,7 @@ use Rattle.lanes_atan2.specs.AtanLanes.{Proper}
 use Rattle.lanes_atan2.proofs.quotients.Given as goal
 
 abbrev pub invariant-loop-k : goal.invariant-loop-k
-invariant-loop-k l = (Filled 8 (λ (j : ℕ). lane l.s j ⊘ lane l.c j) l.initial.z l.k l.z) × (l.good ≡ true → (j : ℕ) → j < l.k → Proper (lane l.s j) (lane l.c j))
+invariant-loop-k g l = (Filled g.row.N (λ (j : ℕ). lane l.s j ⊘ lane l.c j) l.initial.z l.k l.z) × (l.good ≡ true → (j : ℕ) → j < l.k → Proper (lane l.s j) (lane l.c j))
 
 abbrev pub decreases-loop-k : goal.decreases-loop-k
-decreases-loop-k l = 8 - l.k
+decreases-loop-k g l = g.row.N - l.k

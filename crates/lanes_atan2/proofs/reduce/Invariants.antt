@@ -6,7 +6,7 @@ use Rattle.lanes.proofs.Filling.{Filled}
 use Rattle.lanes_atan2.proofs.reduce.Given as goal
 
 abbrev pub invariant-loop-k : goal.invariant-loop-k
-invariant-loop-k l = Filled 8 (λ (j : ℕ). reduced (lane l.z j)) l.initial.w l.k l.w
+invariant-loop-k g l = Filled g.row.N (λ (j : ℕ). reduced (lane l.z j)) l.initial.w l.k l.w
 
 abbrev pub decreases-loop-k : goal.decreases-loop-k
-decreases-loop-k l = 8 - l.k
+decreases-loop-k g l = g.row.N - l.k

@@ -1,10 +1,6 @@
 -- `prism_corner_lanes::arguments` meets its contract. Assumes nothing.
-use Prim.Native.Nat.{◌-◌}
-use Rattle.lanes.proofs.Filling.{none_filled, one-filled, all-filled}
+use Rattle.lanes.proofs.Filling.{one-filled, all-filled}
 use Rattle.prism_corner_lanes.proofs.arguments.Goals as goal
-
-pub loop-k-init : goal.loop-k-init
-loop-k-init c = none_filled c.requires
 
 pub loop-k-preserved : goal.loop-k-preserved
 loop-k-preserved c = one-filled c.loop-k.invariant c.loop-k-test.true c.argument.ensures

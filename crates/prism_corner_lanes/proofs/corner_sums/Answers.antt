@@ -1,17 +1,8 @@
 -- `prism_corner_lanes::corner_sums` meets its contract. Assumes nothing.
-use mathlib.Core.Path.{refl, ap₂, ◌∙◌}
+use mathlib.Core.Path.{ap₂, ◌∙◌}
 use Rattle.prism_corner_lanes.specs.CornerLanes.{axes}
 use Rattle.prism_corner_lanes.proofs.CornersMade.{sums_are}
 use Rattle.prism_corner_lanes.proofs.corner_sums.Goals as goal
-
-pub distances-requires : goal.distances-requires
-distances-requires c = refl
-
-pub logarithms-requires : goal.logarithms-requires
-logarithms-requires c = refl
-
-pub angles-requires : goal.angles-requires
-angles-requires c = refl
 
 pub returns-then-on_edge_line : goal.returns-then-on_edge_line
 returns-then-on_edge_line c = c.corner_sums.ensures

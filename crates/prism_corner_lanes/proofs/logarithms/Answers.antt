@@ -1,13 +1,8 @@
 -- `prism_corner_lanes::logarithms` meets its contract. Assumes nothing.
 use mathlib.Core.Path.{◌∙◌}
-use Prim.Native.Nat.{◌-◌}
-use lib.Ieee.{le}
-use Rattle.lanes.proofs.Filling.{none_filled, one-filled, all-filled}
+use Rattle.lanes.proofs.Filling.{one-filled, all-filled}
 use Rattle.prism_corner_lanes.proofs.CornersMade.{logarithm-from}
 use Rattle.prism_corner_lanes.proofs.logarithms.Goals as goal
-
-pub loop-k-init : goal.loop-k-init
-loop-k-init c = none_filled c.requires
 
 pub loop-k-preserved : goal.loop-k-preserved
 loop-k-preserved c = one-filled c.loop-k.invariant c.loop-k-test.true c.pick.ensures
@@ -17,4 +12,4 @@ returns c =
     λ e.
     let o = all-filled c.loop-k.invariant c.loop-k-test.false in
     let a = c.arguments.ensures in
-    record { size = o.size; at = λ k h. o.at k h ∙ logarithm-from _ _ _ _ _ _ ((c.ln_24-good.ensures e).at k h) (a.at k h) }
+    record { size = o.size; at = λ k h. o.at k h ∙ logarithm-from _ _ _ _ _ _ ((c.ln-good.ensures e).at k h) (a.at k h) }
