@@ -17,7 +17,8 @@ use Rattle.newtonian.specs.Vectors.{difference, zero_field}
 use Rattle.newtonian.specs.Point.{add_point}
 use Rattle.newtonian.specs.declared.Vector.{Vector}
 use Rattle.newtonian.specs.declared.Newtonian.{Newtonian}
-use Rattle.polyhedron_tetrahedra.specs.Tetrahedra.{points, mapped_rule, tetrahedron_field, tetrahedron_point, tetrahedron_line, tetrahedron_layer, mapped_node, mapped_weight, duffy, line_weight}
+use Rattle.polyhedron_tetrahedra.specs.Mapped.{points, mapped_node, mapped_weight, mapped_nodes, mapped_weights}
+use Rattle.polyhedron_tetrahedra.specs.Tetrahedra.{tetrahedron_field, tetrahedron_point, tetrahedron_line, tetrahedron_layer, duffy, line_weight}
 use Rattle.polyhedron_tetrahedra.specs.declared.Tetrahedron.{Tetrahedron}
 use Rattle.polyhedron_tetrahedra.proofs.Nodes.{rule_node, rule_weight}
 use Rattle.polyhedron_far_points.specs.Tetrahedral.{point_count, point_in, weight_in, Room, FirstPoints, point_step, points_field}
@@ -53,7 +54,7 @@ pub so_many : {a : Vector} {s : Tetrahedron} {x y z w : List Float} (n k : ℕ) 
 so_many n k e f = rw (← e) f
 
 -- what a turn of the loop over line m writes, at t
-module _ (a : Vector) (s : Tetrahedron) (nodes weights : List Float) (m t : ℕ) (lm : m < 36) (lt : t < points) (en : nodes ≡ mapped_rule.nodes) (ew : weights ≡ mapped_rule.weights) where
+module _ (a : Vector) (s : Tetrahedron) (nodes weights : List Float) (m t : ℕ) (lm : m < 36) (lt : t < points) (en : nodes ≡ mapped_nodes) (ew : weights ≡ mapped_weights) where
   place_u : (6 * m + t) / 36 ≡ m / 6
   place_u = omega arith
 

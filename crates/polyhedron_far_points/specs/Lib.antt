@@ -1,2 +1,3 @@
 -- The points of a tetrahedron, one after the other.
 pub mod Tetrahedral
+pub mod PointsOf

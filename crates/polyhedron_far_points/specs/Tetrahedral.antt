@@ -7,7 +7,8 @@ use Rattle.newtonian.specs.Vectors.{difference, dot, zero_field}
 use Rattle.newtonian.specs.declared.Vector.{Vector}
 use Rattle.newtonian.specs.declared.Newtonian.{Newtonian}
 use Rattle.newtonian.specs.Point.{add_point}
-use Rattle.polyhedron_tetrahedra.specs.Tetrahedra.{mapped_node, mapped_weight, duffy, line_weight}
+use Rattle.polyhedron_tetrahedra.specs.Tetrahedra.{duffy, line_weight}
+use Rattle.polyhedron_tetrahedra.specs.Mapped.{mapped_node, mapped_weight}
 use Rattle.polyhedron_tetrahedra.specs.declared.Tetrahedron.{Tetrahedron}
 use Rattle.lanes.specs.Lanes.{lane}
 

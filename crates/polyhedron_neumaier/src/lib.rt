@@ -14,72 +14,81 @@ pub struct Pair {
     pub carry: f64,
 }
 
-fn add_term(p: Pair, x: f64) -> Pair
-    ensures { result ≡ add_term p x }
-{
-    let next = p.sum + x;
-    if doubles::abs(p.sum) >= doubles::abs(x) {
-        return Pair {
-            sum: next,
-            carry: p.carry + ((p.sum - next) + x),
+impl Pair {
+    fn add(&mut self, x: f64)
+        ensures { self.new ≡ add_term self.old x }
+    {
+        let next = self.sum + x;
+        let loss = if doubles::abs(self.sum) >= doubles::abs(x) {
+            (self.sum - next) + x
+        } else {
+            (x - next) + self.sum
         };
-    }
-    Pair {
-        sum: next,
-        carry: p.carry + ((x - next) + p.sum),
+        self.carry += loss;
+        self.sum = next;
     }
 }
 
-// A term to each sum.
-pub fn add_terms(sums: [Pair; FIELD_SIZE], terms: [f64; FIELD_SIZE]) -> [Pair; FIELD_SIZE]
-    ensures { result ≡ add_terms sums terms }
-{
-    let mut out = sums;
-    for k in 0..FIELD_SIZE {
-        out[k] = add_term(out[k], terms[k]);
+// A sum for each number of a field.
+#[derive(Clone, Copy)]
+pub struct Sums {
+    pub pairs: [Pair; FIELD_SIZE],
+}
+
+impl Sums {
+    // The sums before the first term.
+    pub fn new() -> Self
+        ensures { result.pairs ≡ no_sums }
+    {
+        Sums {
+            pairs: [Pair {
+                sum: 0.0,
+                carry: 0.0,
+            }; FIELD_SIZE],
+        }
     }
-    out
-}
 
-pub fn no_sums() -> [Pair; FIELD_SIZE]
-    ensures { result ≡ no_sums }
-{
-    [Pair {
-        sum: 0.0,
-        carry: 0.0,
-    }; FIELD_SIZE]
-}
-
-fn total_at(sums: [Pair; FIELD_SIZE], k: usize) -> f64
-    requires { k < field_size }
-    ensures { result ≡ total_at sums k }
-{
-    sums[k].sum + sums[k].carry
-}
-
-// Three sums, from sum k on.
-fn total_vector(sums: [Pair; FIELD_SIZE], k: usize) -> Vector
-    requires { k + 2 < field_size }
-    ensures { result ≡ total_vector sums k }
-{
-    Vector {
-        x: total_at(sums, k),
-        y: total_at(sums, k + 1),
-        z: total_at(sums, k + 2),
+    // A term to each sum.
+    pub fn add(&mut self, terms: &[f64; FIELD_SIZE])
+        ensures { self.new.pairs ≡ add_terms self.old.pairs terms.now }
+    {
+        for (k, pair) in self.pairs.iter_mut().enumerate() {
+            pair.add(terms[k]);
+        }
     }
-}
 
-// The field whose numbers the sums are, with what they have lost.
-pub fn totals(sums: [Pair; FIELD_SIZE]) -> Newtonian
-    ensures { result ≡ totals sums }
-{
-    Newtonian {
-        potential: total_at(sums, 0),
-        gradient: total_vector(sums, 1),
-        hessian: Hessian {
-            x: total_vector(sums, 4),
-            y: total_vector(sums, 7),
-            z: total_vector(sums, 10),
-        },
+    fn total_at(&self, k: usize) -> f64
+        requires { k < field_size }
+        ensures { result ≡ total_at self.now.pairs k }
+    {
+        let p = self.pairs[k];
+        p.sum + p.carry
+    }
+
+    // Three sums, from sum k on.
+    fn total_vector(&self, k: usize) -> Vector
+        requires { k + 2 < field_size }
+        ensures { result ≡ total_vector self.now.pairs k }
+    {
+        Vector {
+            x: self.total_at(k),
+            y: self.total_at(k + 1),
+            z: self.total_at(k + 2),
+        }
+    }
+
+    // The field whose numbers the sums are, with what they have lost.
+    pub fn total(&self) -> Newtonian
+        ensures { result ≡ totals self.now.pairs }
+    {
+        Newtonian {
+            potential: self.total_at(0),
+            gradient: self.total_vector(1),
+            hessian: Hessian {
+                x: self.total_vector(4),
+                y: self.total_vector(7),
+                z: self.total_vector(10),
+            },
+        }
     }
 }

@@ -1,2 +1,3 @@
 -- The far field of a polyhedron.
+pub mod Mapped
 pub mod Tetrahedra

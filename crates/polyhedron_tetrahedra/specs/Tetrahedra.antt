@@ -4,10 +4,8 @@
 --   x = A + u [(B − A) + v ((C − B) + t (D − C))],   Jacobian 6 Vol u² v
 --
 -- The faces' fields are added with Neumaier's compensation. p is the station, v the vertex list and f the face list. Definitions only.
-use Rattle.std.specs.Prelude.{ℕ, List, [], ◌∷◌, Float}
+use Rattle.std.specs.Prelude.{ℕ, List, Float}
 use Rattle.doubles.specs.Rounded.{◌⊕◌, ◌⊗◌}
-use Rattle.doubles.specs.Constants.{0·5, 1·0}
-use Rattle.legendre.specs.GaussLegendre.{node, weight}
 use Rattle.newtonian.specs.Fold.{Fold}
 use Rattle.newtonian.specs.Vectors.{difference, dot, cross, zero_field, field_numbers}
 use Rattle.newtonian.specs.declared.Vector.{Vector}
@@ -16,29 +14,8 @@ use Rattle.newtonian.specs.Point.{add_point}
 use Rattle.mesh.specs.Surface.{face_count, corner}
 use Rattle.polyhedron_neumaier.specs.Neumaier.{no_sums, add_terms, totals}
 use Rattle.polyhedron_neumaier.specs.declared.Pair.{Pair}
-use Rattle.polyhedron_tetrahedra.specs.declared.MappedRule.{MappedRule}
+use Rattle.polyhedron_tetrahedra.specs.Mapped.{points, mapped_node, mapped_weight}
 use Rattle.polyhedron_tetrahedra.specs.declared.Tetrahedron.{Tetrahedron}
-
--- ---- the rule
-
--- how many points the rule has on each axis
-abbrev pub points : ℕ
-points = 6
-
--- node i, mapped from (−1, 1) to (0, 1)
-unfoldable pub mapped_node : ℕ → Float
-mapped_node i = 0·5 ⊗ (node points i ⊕ 1·0)
-
--- weight i, for (0, 1)
-unfoldable pub mapped_weight : ℕ → Float
-mapped_weight i = 0·5 ⊗ weight points i
-
--- the mapped rule: all nodes and all weights
-unfoldable pub mapped_rule : MappedRule
-mapped_rule = record {
-  nodes = mapped_node 0 ∷ mapped_node 1 ∷ mapped_node 2 ∷ mapped_node 3 ∷ mapped_node 4 ∷ mapped_node 5 ∷ [];
-  weights = mapped_weight 0 ∷ mapped_weight 1 ∷ mapped_weight 2 ∷ mapped_weight 3 ∷ mapped_weight 4 ∷ mapped_weight 5 ∷ [];
-}
 
 -- ---- a tetrahedron
 

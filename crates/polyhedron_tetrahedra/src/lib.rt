@@ -3,19 +3,13 @@
 #![tactic(auto)]
 
 ghost use Rattle.std.specs.Prelude.{◌≡◌};
-ghost use Rattle.polyhedron_tetrahedra.specs.Tetrahedra.{mapped_rule, over_face, duffy_axis, duffy, line_weight};
+ghost use Rattle.polyhedron_tetrahedra.specs.Tetrahedra.{over_face, duffy_axis, duffy, line_weight};
 
 use newtonian::{Vector, cross, difference, dot};
 
-// How many points the rule has on each axis.
-pub const POINTS: usize = 6;
+mod rule;
 
-// A rule on (0, 1).
-#[derive(Clone, Copy)]
-pub struct MappedRule {
-    pub nodes: [f64; POINTS],
-    pub weights: [f64; POINTS],
-}
+pub use rule::{MappedRule, POINTS};
 
 // A tetrahedron ABCD: the sides from A to B, B to C and C to D, and six times its signed volume.
 #[derive(Clone, Copy)]
@@ -24,32 +18,6 @@ pub struct Tetrahedron {
     pub bc: Vector,
     pub cd: Vector,
     pub vol6: f64,
-}
-
-// The 6-point rule, mapped from (−1, 1).
-pub fn mapped_rule() -> MappedRule
-    ensures { result ≡ mapped_rule }
-{
-    let rule = legendre::gauss_legendre(6);
-    let x = rule.nodes;
-    let w = rule.weights;
-    let nodes = [
-        0.5 * (x[0] + 1.0),
-        0.5 * (x[1] + 1.0),
-        0.5 * (x[2] + 1.0),
-        0.5 * (x[3] + 1.0),
-        0.5 * (x[4] + 1.0),
-        0.5 * (x[5] + 1.0),
-    ];
-    let weights = [
-        0.5 * w[0],
-        0.5 * w[1],
-        0.5 * w[2],
-        0.5 * w[3],
-        0.5 * w[4],
-        0.5 * w[5],
-    ];
-    MappedRule { nodes, weights }
 }
 
 // The tetrahedron from the apex a to the face with the corners b, c and d.

@@ -4,4 +4,4 @@ use Rattle.polyhedron_far_one.proofs.tetrahedra.Goals as goal
 
 pub returns : goal.returns
 unfolding tetrahedra
-returns c = simp (c.totals.ensures, c.face_sums.ensures)
+returns c = simp (c.total.ensures, c.face_sums.ensures)
