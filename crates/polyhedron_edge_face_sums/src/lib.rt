@@ -28,6 +28,7 @@ pub struct Triangle {
 }
 
 // Face k.
+#[tactic(auto, unfolding(crate::specs::EdgeFaceSums::triangle_of))]
 fn triangle_of(verts: &[f64], faces: &[u32], k: usize) -> Triangle
     requires { Body verts.now faces.now × (k < face_count faces.now) }
     ensures { result ≡ triangle_of verts.now faces.now k }

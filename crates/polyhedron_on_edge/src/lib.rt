@@ -15,15 +15,14 @@ pub const EDGE_LIMIT: usize = 64;
 pub const BLOCK: usize = 576;
 
 // The key of the edge between the vertices i and j.
+#[tactic(auto, unfolding(crate::specs::OnEdge::edge_key))]
 pub fn edge_key(i: u32, j: u32) -> u64
     ensures { result ≡ edge_key i j }
 {
-    if i < j {
-        return number(i, j);
-    }
-    number(j, i)
+    if i < j { number(i, j) } else { number(j, i) }
 }
 
+#[tactic(auto, unfolding(crate::specs::OnEdge::add_matrices))]
 fn add_matrices(a: Hessian, b: Hessian) -> Hessian
     ensures { result ≡ add_matrices a b }
 {
@@ -34,6 +33,7 @@ fn add_matrices(a: Hessian, b: Hessian) -> Hessian
     }
 }
 
+#[tactic(auto, unfolding(crate::specs::Block::hessian_numbers))]
 fn hessian_numbers(d: Hessian) -> [f64; 9]
     ensures { result ≡ hessian_numbers d }
 {
@@ -43,13 +43,15 @@ fn hessian_numbers(d: Hessian) -> [f64; 9]
 }
 
 // Between faces in one plane an edge's sum vanishes, and so does the term.
+#[tactic(auto, unfolding(crate::specs::OnEdge::infinite_entry))]
 fn infinite_entry(t: f64, x: f64) -> f64
     ensures { result ≡ infinite_entry t x }
 {
     if doubles::abs(x) > 1e-12 {
-        return t + x * (1.0 / 0.0);
+        t + x * f64::INFINITY
+    } else {
+        t
     }
-    t
 }
 
 fn infinite_row(t: Vector, e: Vector) -> Vector
@@ -62,6 +64,7 @@ fn infinite_row(t: Vector, e: Vector) -> Vector
     }
 }
 
+#[tactic(auto, unfolding(crate::specs::OnEdge::infinite_entries))]
 fn infinite_entries(t: Hessian, e: Hessian) -> Hessian
     ensures { result ≡ infinite_entries t e }
 {
@@ -96,6 +99,7 @@ impl Edges {
     }
 
     // The sum that edge i has.
+    #[tactic(auto, unfolding(crate::specs::Block::dyad_in))]
     fn dyad(&self, i: usize) -> Hessian
         requires { i < edge_limit }
         ensures { result ≡ dyad_in self.now.dyads i }
