@@ -1,3 +1,4 @@
 -- Eight faces side by side, added to the field.
 pub mod EightFaces
 pub mod ClearLaws
+pub mod Held

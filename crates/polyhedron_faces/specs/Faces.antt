@@ -1,7 +1,6 @@
 -- Eight faces side by side: corner or side j of the face in lane k stands at 8 j + k. Definitions only.
 use Rattle.std.specs.Prelude.{◌≡◌, List, ℕ, ◌+◌, ◌%◌, ◌<◌, Float, slice_index_or}
 use Rattle.std.specs.Float.{nan}
-use Rattle.newtonian.specs.Vectors.{diagonal}
 use Rattle.newtonian.specs.declared.Vector.{Vector}
 use Rattle.newtonian.specs.declared.Hessian.{Hessian}
 use Rattle.polyhedron_edge_terms.specs.EdgeTerms.{dyad}
@@ -11,9 +10,12 @@ use Rattle.lanes.specs.Lanes.{lane}
 abbrev pub vector_at : List Float → List Float → List Float → ℕ → Vector
 vector_at x y z k = record { x = lane x k; y = lane y k; z = lane z k }
 
--- matrix k of a list
+-- matrix k of a list; past the end there is none
+abbrev pub no_matrix : Hessian
+no_matrix = let o : Vector = record { x = nan; y = nan; z = nan } in record { x = o; y = o; z = o }
+
 abbrev pub matrix_at : List Hessian → ℕ → Hessian
-matrix_at w k = slice_index_or w k (diagonal nan)
+matrix_at w k = slice_index_or w k no_matrix
 
 -- the lanes hold the faces t 0, t 1, .., t 7: their corners, their unit normals, their sides' unit normals and lengths
 pub record Describes (t : ℕ → Triangle) (cx cy cz nx ny nz mx my mz e : List Float) : Type 0 where

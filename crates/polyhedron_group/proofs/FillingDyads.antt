@@ -4,13 +4,11 @@ use mathlib.Core.List.{List}
 use mathlib.Core.Logic.{⊎_elim}
 use Prim.Native.Nat.{ℕ, ◌+◌, ◌≤◌, ◌<◌}
 use native.Mathlib.Omega.{arith}
-use lib.Ieee.{nan}
 use lib.ListN.{length, set, length-set}
 use lib.Seq.{get_or-set_same, get_or-set_other}
 use Rattle.lists.proofs.Numbers.{same?}
-use Rattle.newtonian.specs.Vectors.{diagonal}
 use Rattle.newtonian.specs.declared.Hessian.{Hessian}
-use Rattle.polyhedron_faces.specs.Faces.{matrix_at}
+use Rattle.polyhedron_faces.specs.Faces.{matrix_at, no_matrix}
 
 -- of n matrices, those below k are g's
 pub record FilledDyads (n : ℕ) (g : ℕ → Hessian) (k : ℕ) (w : List Hessian) : Type 0 where
@@ -26,8 +24,8 @@ module _ {n : ℕ} {g : ℕ → Hessian} {w : List Hessian} where
     size = length-set w k v ∙ f.size;
     below = λ j m.
         ⊎_elim
-        (λ z. rw z (get_or-set_same w k v (diagonal nan) (omega (arith, f.size)) ∙ e))
-        (λ z. get_or-set_other w k j v (diagonal nan) z ∙ f.below j (omega (arith, z)))
+        (λ z. rw z (get_or-set_same w k v no_matrix (omega (arith, f.size)) ∙ e))
+        (λ z. get_or-set_other w k j v no_matrix z ∙ f.below j (omega (arith, z)))
         (same? j k);
   }
 

@@ -1,2 +1,3 @@
--- The logarithms of the sides of eight faces.
+-- The logarithms of the sides of eight faces: Sides of lists, Seen of a struct.
 pub mod Sides
+pub mod Seen

@@ -2,24 +2,41 @@
 // to the face's next corner, stand at 8 j + k.
 #![tactic(auto)]
 
-ghost use Rattle.std.specs.Prelude.{◌≡◌, true, ℕ, ◌<◌, length};
+ghost use Rattle.std.specs.Prelude.{◌≡◌, true, ℕ, ◌+◌, ◌%◌, ◌<◌};
 ghost use Rattle.std.specs.Float.Ieee.Scale.{finite};
 ghost use Rattle.lanes.specs.Lanes.{lane, Lanes};
-ghost use Rattle.polyhedron_logarithms.specs.Sides.{corner_at, ratio, ratio_at, logarithm_at};
+ghost use Rattle.polyhedron_logarithms.specs.Sides.{ratio};
+ghost use Rattle.polyhedron_logarithms.specs.Seen.{corner_of, logarithm_of, HoldsRatios, zero_corners};
 
 use newtonian::{cross, dot};
 use polyhedron_edge_terms::Corner;
-use polyhedron_faces::vector_24;
+use polyhedron_faces::Vectors;
 
-// Corner i, with the offsets in x, y, z and the distances in l.
-pub fn corner_at(x: &[f64; 24], y: &[f64; 24], z: &[f64; 24], l: &[f64; 24], i: usize) -> Corner
-    requires { i < 24 }
-    ensures { result ≡ corner_at x.now y.now z.now l.now i }
-{
-    let d = l[i];
-    Corner {
-        r: vector_24(x, y, z, i),
-        l: d,
+// The corners of the faces as a station sees them: their offsets and their distances.
+#[derive(Drop)]
+pub struct SeenCorners {
+    pub offsets: Vectors<24>,
+    pub distances: [f64; 24],
+}
+
+impl SeenCorners {
+    pub fn zeros() -> Self
+        ensures { result ≡ zero_corners }
+    {
+        SeenCorners {
+            offsets: Vectors::zeros(),
+            distances: [0.0; 24],
+        }
+    }
+
+    pub fn at(&self, i: usize) -> Corner
+        requires { i < 24 }
+        ensures { result ≡ corner_of self.now i }
+    {
+        Corner {
+            r: self.offsets.at(i),
+            l: self.distances[i],
+        }
     }
 }
 
@@ -34,56 +51,43 @@ fn ratio_of(a: Corner, b: Corner, e: f64) -> f64
     (sum + e) / lanes::pick(ab < 0.0, g, sum - e)
 }
 
-// The same for each side. The last side of a face ends at its first corner: a loop of its own, with no % in an index.
-fn ratios_24(
-    x: &[f64; 24],
-    y: &[f64; 24],
-    z: &[f64; 24],
-    l: &[f64; 24],
-    e: &[f64; 24],
-    out: &mut [f64; 24],
-)
-    requires { length out.old ≡ 24 }
-    ensures { Lanes 24 (ratio_at x.now y.now z.now l.now e.now) out.new }
+// The same for one side of each face, from the corners at `from` on to those at `to` on: no % in an index.
+fn ratios_8(c: &SeenCorners, e: &[f64; 24], from: usize, to: usize, out: &mut [f64; 24])
+    requires from_bound { (from < 24) × (from % 8 ≡ 0) × (to ≡ (from + 8) % 24) }
+    requires ratios { HoldsRatios from c.now e.now out.old }
+    ensures { HoldsRatios (from + 8) c.now e.now out.new }
 {
-    for k in 0..16usize {
-        let d = e[k];
-        let a = corner_at(x, y, z, l, k);
-        out[k] = ratio_of(a, corner_at(x, y, z, l, k + 8), d);
-    }
-    for k in 16..24usize {
-        let d = e[k];
-        let a = corner_at(x, y, z, l, k);
-        out[k] = ratio_of(a, corner_at(x, y, z, l, k - 16), d);
+    for k in 0..8usize {
+        let i = from + k;
+        let d = e[i];
+        let a = c.at(i);
+        out[i] = ratio_of(a, c.at(to + k), d);
     }
 }
 
-// Whether each number is finite.
+// The same for each side.
+fn ratios_24(c: &SeenCorners, e: &[f64; 24], out: &mut [f64; 24])
+    ensures { HoldsRatios 24 c.now e.now out.new }
+{
+    ratios_8(c, e, 0, 8, out);
+    ratios_8(c, e, 8, 16, out);
+    ratios_8(c, e, 16, 0, out);
+}
+
+// Whether each number is finite. All are looked at: no branch.
 fn finite_24(w: &[f64; 24]) -> bool
     ensures { result ≡ true → (k : ℕ) → k < 24 → finite (lane w.now k) ≡ true }
 {
-    let mut all = true;
-    for k in 0..24usize {
-        all = all & doubles::is_finite(w[k]);
-    }
-    all
+    w.iter().fold(true, |all, v| all & doubles::is_finite(*v))
 }
 
 // The logarithms of the sides, where the answer is true.
-pub fn logarithms_24(
-    x: &[f64; 24],
-    y: &[f64; 24],
-    z: &[f64; 24],
-    l: &[f64; 24],
-    e: &[f64; 24],
-    out: &mut [f64; 24],
-) -> bool
-    requires { length out.old ≡ 24 }
-    ensures { result ≡ true → Lanes 24 (logarithm_at x.now y.now z.now l.now e.now) out.new
+pub fn logarithms_24(c: &SeenCorners, e: &[f64; 24], out: &mut [f64; 24]) -> bool
+    ensures { result ≡ true → Lanes 24 (logarithm_of c.now e.now) out.new
         × ((k : ℕ) → k < 24 → finite (lane out.new k) ≡ true) }
 {
     let mut q = [0.0; 24];
-    ratios_24(x, y, z, l, e, &mut q);
-    let good = lanes_ln::ln_24(&q, out);
+    ratios_24(c, e, &mut q);
+    let good = lanes_ln::ln(&q, out);
     good & finite_24(out)
 }

@@ -2,39 +2,48 @@
 // angles. Corner j of face k, and the side from there to the face's next corner, stand at 8 j + k.
 #![tactic(auto)]
 
-ghost use Rattle.std.specs.Prelude.{◌≡◌, true, ℕ, length};
+ghost use Rattle.std.specs.Prelude.{◌≡◌, true, ℕ};
 ghost use Rattle.newtonian.specs.declared.Vector.{Vector};
 ghost use Rattle.lanes.specs.Lanes.{Lanes};
-ghost use Rattle.polyhedron_sight.specs.Sight.{Corners, seen_at, triple, denominator, triple_at, denominator_at, angle_at, Sight};
+ghost use Rattle.polyhedron_sight.specs.Sight.{seen_at, triple, denominator};
+ghost use Rattle.polyhedron_sight.specs.Seen.{HoldsCorners, triple_of, denominator_of, angle_of, Sees, zero_seen};
 
 use newtonian::{Vector, cross, difference, dot};
 use polyhedron_edge_terms::Corner;
-use polyhedron_faces::vector_24;
-use polyhedron_logarithms::corner_at;
+use polyhedron_faces::Vectors;
+use polyhedron_logarithms::SeenCorners;
+
+// What a station sees of eight faces.
+#[derive(Drop)]
+pub struct SeenFaces {
+    pub corners: SeenCorners,
+    pub logarithms: [f64; 24],
+    pub angles: [f64; 8],
+}
+
+impl SeenFaces {
+    pub fn zeros() -> Self
+        ensures { result ≡ zero_seen }
+    {
+        SeenFaces {
+            corners: SeenCorners::zeros(),
+            logarithms: [0.0; 24],
+            angles: [0.0; 8],
+        }
+    }
+}
 
 // Offsets and distances of the corners.
-fn seen_24(
-    p: Vector,
-    cx: &[f64; 24],
-    cy: &[f64; 24],
-    cz: &[f64; 24],
-    x: &mut [f64; 24],
-    y: &mut [f64; 24],
-    z: &mut [f64; 24],
-    l: &mut [f64; 24],
-)
-    requires { (length x.old ≡ 24) × (length y.old ≡ 24) × (length z.old ≡ 24) × (length l.old ≡ 24) }
-    ensures { Corners 24 (seen_at p cx.now cy.now cz.now) x.new y.new z.new l.new }
+fn seen_24(p: Vector, corners: &Vectors<24>, c: &mut SeenCorners)
+    ensures { HoldsCorners 24 (seen_at p corners.now.x corners.now.y corners.now.z) c.new }
 {
     let mut q = [0.0; 24];
     for k in 0..24usize {
-        let r = difference(vector_24(cx, cy, cz, k), p);
-        x[k] = r.x;
-        y[k] = r.y;
-        z[k] = r.z;
+        let r = difference(corners.at(k), p);
+        c.offsets.set(k, r);
         q[k] = dot(r, r);
     }
-    lanes::roots_24(&q, l);
+    lanes::roots(&q, &mut c.distances);
 }
 
 // The triple product of three offsets.
@@ -55,37 +64,28 @@ fn denominator_of(a: Corner, b: Corner, c: Corner) -> f64
 }
 
 // Both numbers of that quotient, for each face.
-fn quotients_8(
-    x: &[f64; 24],
-    y: &[f64; 24],
-    z: &[f64; 24],
-    l: &[f64; 24],
-    s: &mut [f64; 8],
-    c: &mut [f64; 8],
-)
-    requires { (length s.old ≡ 8) × (length c.old ≡ 8) }
-    ensures lanes { Lanes 8 (triple_at x.now y.now z.now l.now) s.new }
-    ensures lanes_2 { Lanes 8 (denominator_at x.now y.now z.now l.now) c.new }
+fn quotients_8(corners: &SeenCorners, s: &mut [f64; 8], c: &mut [f64; 8])
+    ensures lanes { Lanes 8 (triple_of corners.now) s.new }
+    ensures lanes_2 { Lanes 8 (denominator_of corners.now) c.new }
 {
     for k in 0..8usize {
-        let a = corner_at(x, y, z, l, k);
-        let b = corner_at(x, y, z, l, 8 + k);
-        let d = corner_at(x, y, z, l, 16 + k);
+        let a = corners.at(k);
+        let b = corners.at(8 + k);
+        let d = corners.at(16 + k);
         s[k] = triple_of(a, b, d);
         c[k] = denominator_of(a, b, d);
     }
 }
 
 // The solid angles of the faces, where the answer is true. It is false where a triple product is zero.
-fn angles_8(x: &[f64; 24], y: &[f64; 24], z: &[f64; 24], l: &[f64; 24], out: &mut [f64; 8]) -> bool
-    requires { length out.old ≡ 8 }
-    ensures { result ≡ true → (n : ℕ → Vector) → Lanes 8 (angle_at x.now y.now z.now l.now n) out.new }
+fn angles_8(corners: &SeenCorners, out: &mut [f64; 8]) -> bool
+    ensures { result ≡ true → (n : ℕ → Vector) → Lanes 8 (angle_of corners.now n) out.new }
 {
     let mut s = [0.0; 8];
     let mut c = [0.0; 8];
     let mut a = [0.0; 8];
-    quotients_8(x, y, z, l, &mut s, &mut c);
-    let good = lanes_atan2::atan2_8(&s, &c, &mut a);
+    quotients_8(corners, &mut s, &mut c);
+    let good = lanes_atan2::atan2(&s, &c, &mut a);
     for k in 0..8usize {
         out[k] = 2.0 * a[k];
     }
@@ -93,26 +93,13 @@ fn angles_8(x: &[f64; 24], y: &[f64; 24], z: &[f64; 24], l: &[f64; 24], out: &mu
 }
 
 // What p sees of the faces with these corners and with sides of the lengths e, where the answer is true. It is false where a
-// logarithm is not finite or a triple product is zero, as on an edge and in the plane of a face.
-pub fn sight(
-    p: Vector,
-    cx: &[f64; 24],
-    cy: &[f64; 24],
-    cz: &[f64; 24],
-    e: &[f64; 24],
-    x: &mut [f64; 24],
-    y: &mut [f64; 24],
-    z: &mut [f64; 24],
-    log: &mut [f64; 24],
-    omega: &mut [f64; 8],
-) -> bool
-    requires { (length x.old ≡ 24) × (length y.old ≡ 24) × (length z.old ≡ 24) × (length log.old ≡ 24) × (length omega.old ≡ 8) }
-    ensures { result ≡ true → Sight p cx.now cy.now cz.now e.now
-        x.new y.new z.new log.new omega.new }
+// logarithm is not finite or a triple product is zero, as on an edge and in the plane of a face. It goes into the caller's s,
+// and is no `Option`, so that nothing is copied.
+pub fn sight(p: Vector, corners: &Vectors<24>, e: &[f64; 24], s: &mut SeenFaces) -> bool
+    ensures { result ≡ true → Sees p corners.now e.now s.new }
 {
-    let mut l = [0.0; 24];
-    seen_24(p, cx, cy, cz, x, y, z, &mut l);
-    let lines = polyhedron_logarithms::logarithms_24(x, y, z, &l, e, log);
-    let angles = angles_8(x, y, z, &l, omega);
+    seen_24(p, corners, &mut s.corners);
+    let lines = polyhedron_logarithms::logarithms_24(&s.corners, e, &mut s.logarithms);
+    let angles = angles_8(&s.corners, &mut s.angles);
     lines & angles
 }

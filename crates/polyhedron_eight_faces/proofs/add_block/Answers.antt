@@ -8,7 +8,7 @@ use Rattle.polyhedron_eight_faces.proofs.add_block.Goals as goal
 
 pub returns : goal.returns
 returns c =
-    λ e t d.
+    λ t d.
     let m : c.args.count ≤ 8 = c.requires.count_bound in
-    let s = c.sight-clear.ensures e in
-    (c.add_faces-field.ensures ∙ fold_same c.args.count _ _ _ (λ k l f. face-is c.args.p t d s k (let n : k < 8 = omega arith in n) f), all_clear c.args.p t d s)
+    let s = c.sight.ensures c.if-not-sight.false in
+    (c.add_faces.ensures ∙ fold_same c.args.count _ _ _ (λ k l f. face-is c.args.p t c.args.g.now c.sight.new.s d s k (let n : k < 8 = omega arith in n) f), all_clear c.args.p t c.args.g.now c.sight.new.s d s)

@@ -8,22 +8,22 @@ use Rattle.polyhedron_eight_faces.proofs.Adding.{side_dyad_lem}
 use Rattle.polyhedron_eight_faces.proofs.add_face.Goals as goal
 
 pub add_face_dyad-face-requires : goal.add_face_dyad-face-requires
-add_face_dyad-face-requires c = c.matrix_of.ensures ∙ c.requires.dyads.of_face c.args.k c.requires.k_bound ∙ sym (ap₂ dyad c.vector_8-n.ensures c.vector_8-n.ensures)
+add_face_dyad-face-requires c = c.requires.dyads.of_face c.args.k c.requires.k_bound ∙ sym (ap₂ dyad c.at-n.ensures c.at-n.ensures)
 
 pub add_side-ab-requires : goal.add_side-ab-requires
 add_side-ab-requires c =
     let l = c.requires.k_bound in
-    (omega (arith, l), side_dyad_lem c.requires.dyads c.args.k c.args.k (omega (arith, l)) (omega (arith, l)) c.vector_8-n.ensures)
+    (omega (arith, l), side_dyad_lem c.args.g.now c.requires.dyads c.args.k c.args.k (omega (arith, l)) (omega (arith, l)) c.at-n.ensures)
 
 pub add_side-bc-requires : goal.add_side-bc-requires
 add_side-bc-requires c =
     let l = c.requires.k_bound in
-    (omega (arith, l), side_dyad_lem c.requires.dyads (8 + c.args.k) c.args.k (omega (arith, l)) (omega (arith, l)) c.vector_8-n.ensures)
+    (omega (arith, l), side_dyad_lem c.args.g.now c.requires.dyads (8 + c.args.k) c.args.k (omega (arith, l)) (omega (arith, l)) c.at-n.ensures)
 
 pub add_side-requires : goal.add_side-requires
 add_side-requires c =
     let l = c.requires.k_bound in
-    (omega (arith, l), side_dyad_lem c.requires.dyads (16 + c.args.k) c.args.k (omega (arith, l)) (omega (arith, l)) c.vector_8-n.ensures)
+    (omega (arith, l), side_dyad_lem c.args.g.now c.requires.dyads (16 + c.args.k) c.args.k (omega (arith, l)) (omega (arith, l)) c.at-n.ensures)
 
 pub returns : goal.returns
 unfolding add_face_at
@@ -34,8 +34,8 @@ returns c =
       c.add_side-ab.ensures,
       c.add_face_dyad-face.ensures,
       c.dot-rho.ensures,
-      c.vector_24.ensures,
-      c.vector_8-n.ensures,
+      c.at.ensures,
+      c.at-n.ensures,
     )
 
 pub overflow_add-k : goal.overflow_add-k

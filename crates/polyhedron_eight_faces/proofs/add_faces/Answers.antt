@@ -1,6 +1,5 @@
 -- `polyhedron_eight_faces::add_faces` meets its contract. Assumes nothing.
 use mathlib.Core.Path.{◌≡◌}
-use Prim.Native.Nat.{◌-◌}
 use native.Mathlib.Omega.{arith}
 use Rattle.newtonian.specs.Fold.{fold-none, fold_more}
 use borrow.Author.Rules.{rules}

@@ -8,6 +8,6 @@ use Rattle.polyhedron_logarithms.proofs.logarithms_24.Goals as goal
 pub returns : goal.returns
 returns c =
     λ e.
-    let b = both c.ln_24-good.result c.finite_24.result e in
-    let w = c.ln_24-good.ensures b.0 in
+    let b = both c.ln-good.result c.finite_24.result e in
+    let w = c.ln-good.ensures b.0 in
     (record { size = w.size; at = λ k h. w.at k h ∙ ap ln (c.ratios_24.ensures.at k h) ∙ logarithm-is _ _ _ }, c.finite_24.ensures b.1)

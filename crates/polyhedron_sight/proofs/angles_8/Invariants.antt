@@ -1,5 +1,5 @@
 -- `polyhedron_sight::angles_8` meets its contract. Assumes nothing.
-use Prim.Native.Nat.{ℕ, ◌-◌}
+use Prim.Native.Nat.{ℕ}
 use Rattle.doubles.specs.Rounded.{◌⊗◌}
 use Rattle.doubles.specs.Constants.{2·0}
 use Rattle.lanes.specs.Lanes.{lane}
@@ -8,6 +8,3 @@ use Rattle.polyhedron_sight.proofs.angles_8.Given as goal
 
 abbrev pub invariant-loop-k : goal.invariant-loop-k
 invariant-loop-k l = Filled 8 (λ (j : ℕ). 2·0 ⊗ lane l.a j) l.initial.out l.k l.out
-
-abbrev pub decreases-loop-k : goal.decreases-loop-k
-decreases-loop-k l = 8 - l.k

@@ -8,4 +8,4 @@ returns c =
     λ e.
     let b = both c.logarithms_24-lines.result c.angles_8-angles.result e in
     let w = c.logarithms_24-lines.ensures b.0 in
-    sighted _ _ _ _ c.seen_24.ensures _ w.0 w.1 (c.angles_8-angles.ensures b.1)
+    sighted _ _ c.seen_24.ensures _ w.0 w.1 (c.angles_8-angles.ensures b.1)
