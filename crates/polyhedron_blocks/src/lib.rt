@@ -1,42 +1,19 @@
-// The states of a block of eight stations over which the faces are walked once: for each station the field so far, and the
-// edges that gave a logarithm that is not finite.
+// The states of a block of eight stations over which the faces are walked once.
 #![tactic(auto)]
 
-ghost use Rattle.std.specs.Prelude.{◌≡◌, [], ℕ, ◌*◌, ◌<◌, length, get_or};
-ghost use Rattle.polyhedron_on_edge.specs.OnEdge.{edge_limit};
-ghost use Rattle.polyhedron_blocks.specs.Blocks.{block_size};
+ghost use Rattle.std.specs.Prelude.{◌≡◌, ℕ, ◌<◌, length};
+ghost use Rattle.polyhedron_edge_face_sums.specs.EdgeFaceSums.{no_faces};
+ghost use Rattle.polyhedron_blocks.specs.Blocks.{block_size, CarriesAt};
 
-use polyhedron_on_edge::{BLOCK, EDGE_LIMIT};
+use polyhedron_edge_face_sums::Running;
 
 // So many stations to a block.
 pub const STATIONS: usize = 8;
 
-// Room for the keys of one station's edges.
-pub fn keys_of_one() -> [u64; EDGE_LIMIT]
-    ensures { length result ≡ edge_limit }
+// The states of a block's stations before the first face.
+pub fn no_runs() -> [Running; STATIONS]
+    ensures size { length result ≡ block_size }
+    ensures carries { (j : ℕ) → j < block_size → CarriesAt j no_faces result }
 {
-    [0u64; EDGE_LIMIT]
-}
-
-// Room for their dyads.
-pub fn dyads_of_one() -> [f64; BLOCK]
-    ensures { length result ≡ edge_limit * 9 }
-{
-    [0.0; BLOCK]
-}
-
-// Room for the keys of a block's edges. It need not be cleared between two walks: a count of 0 says that it holds none.
-pub fn key_room() -> [[u64; EDGE_LIMIT]; STATIONS]
-    ensures { (length result ≡ block_size) × ((j : ℕ) → j < block_size → length (get_or result j []) ≡ edge_limit) }
-{
-    let one = keys_of_one();
-    [one; STATIONS]
-}
-
-// Room for their dyads.
-pub fn dyad_room() -> [[f64; BLOCK]; STATIONS]
-    ensures { (length result ≡ block_size) × ((j : ℕ) → j < block_size → length (get_or result j []) ≡ edge_limit * 9) }
-{
-    let one = dyads_of_one();
-    [one; STATIONS]
+    [Running::new(); STATIONS]
 }

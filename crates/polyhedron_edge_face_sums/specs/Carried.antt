@@ -1,20 +1,19 @@
--- No part of the field's definition: how the code holds the sums s, their field in r and their edges in a block of keys and dyads. v is the vertex list and f the face list of a mesh, p
--- the station. Definitions only.
+-- No part of the field's definition: how the code holds the sums s, their field and their edges. v is the vertex list and f the face list of a mesh, p the station. Definitions only.
 use Rattle.std.specs.Prelude.{◌≡◌, List, ℕ, ◌+◌, Float}
 use Rattle.newtonian.specs.Fold.{Fold}
 use Rattle.newtonian.specs.declared.Vector.{Vector}
-use Rattle.polyhedron_on_edge.specs.Block.{HoldsEdges}
+use Rattle.polyhedron_on_edge.specs.Held.{HoldsEdges}
 use Rattle.polyhedron_edge_face_sums.specs.declared.Running.{Running}
 use Rattle.polyhedron_edge_face_sums.specs.EdgeFaceSums.{Sums, triangle_of, add_triangle}
 
-pub record Carries (s : Sums) (keys : List ℕ) (dyads : List Float) (r : Running) : Type 0 where
+pub record Carries (s : Sums) (r : Running) : Type 0 where
   pub field : r.field ≡ s.field
-  pub edges : HoldsEdges s.edges keys dyads r.count
+  pub edges : HoldsEdges s.edges r.edges
 
 -- the sums s with the n faces from the face first on
 abbrev pub with_faces : Vector → List Float → List ℕ → ℕ → ℕ → Sums → Sums
 with_faces p v f first n s = Fold n (λ k. add_triangle p (triangle_of v f (first + k))) s
 
 -- whatever sums the code holds before, it holds them with those faces after
-abbrev pub Adds : Vector → List Float → List ℕ → ℕ → ℕ → List ℕ → List Float → Running → List ℕ → List Float → Running → Type 0
-Adds p v f first n keys₀ dyads₀ run₀ keys dyads run = (s : Sums) → Carries s keys₀ dyads₀ run₀ → Carries (with_faces p v f first n s) keys dyads run
+abbrev pub Adds : Vector → List Float → List ℕ → ℕ → ℕ → Running → Running → Type 0
+Adds p v f first n run₀ run = (s : Sums) → Carries s run₀ → Carries (with_faces p v f first n s) run

@@ -24,6 +24,7 @@ pub struct Corner {
     pub l: f64,
 }
 
+#[tactic(auto, unfolding(crate::specs::Corners::unit))]
 pub fn unit(a: Vector) -> Vector
     ensures { result ≡ unit a }
 {
@@ -31,6 +32,7 @@ pub fn unit(a: Vector) -> Vector
 }
 
 // The side from a to b, between the vertices from and to, of a face with the unit normal n.
+#[tactic(auto, unfolding(crate::specs::Corners::side_of))]
 pub fn side_of(n: Vector, a: Vector, b: Vector, from: u32, to: u32) -> Side
     ensures { result ≡ side_of n a b from to }
 {
@@ -44,6 +46,7 @@ pub fn side_of(n: Vector, a: Vector, b: Vector, from: u32, to: u32) -> Side
 }
 
 // The corner at q seen from p.
+#[tactic(auto, unfolding(crate::specs::Corners::seen))]
 pub fn seen(p: Vector, q: Vector) -> Corner
     ensures { result ≡ seen p q }
 {
@@ -55,22 +58,15 @@ pub fn seen(p: Vector, q: Vector) -> Corner
 }
 
 // An edge passes through the station if an end lies there, or the station lies between the ends.
+#[tactic(auto, unfolding(crate::specs::SolidAngle::passes_through))]
 fn passes_through(la: f64, lb: f64, sin: f64, cos: f64) -> bool
     ensures { result ≡ passes_through la lb sin cos }
 {
-    if la == 0.0 {
-        return true;
-    }
-    if lb == 0.0 {
-        return true;
-    }
-    if sin == 0.0 {
-        return cos < 0.0;
-    }
-    false
+    la == 0.0 || lb == 0.0 || (sin == 0.0 && cos < 0.0)
 }
 
 // The angle from a to b about a station in the face's plane.
+#[tactic(auto, unfolding(crate::specs::SolidAngle::winding_angle))]
 fn winding_angle(n: Vector, a: Corner, b: Corner) -> f64
     ensures { result ≡ winding_angle n a b }
 {
@@ -82,6 +78,7 @@ fn winding_angle(n: Vector, a: Corner, b: Corner) -> f64
     carlson::atan2(sin, cos)
 }
 
+#[tactic(auto, unfolding(crate::specs::SolidAngle::solid_angle))]
 pub fn solid_angle(n: Vector, a: Corner, b: Corner, c: Corner) -> f64
     ensures { result ≡ solid_angle n a b c }
 {
@@ -96,6 +93,7 @@ pub fn solid_angle(n: Vector, a: Corner, b: Corner, c: Corner) -> f64
 }
 
 // r_a + r_b − e without cancellation.
+#[tactic(auto, unfolding(crate::specs::EdgeTerms::gap))]
 fn gap(a: Corner, b: Corner, e: f64) -> f64
     ensures { result ≡ gap a b e }
 {
@@ -109,12 +107,14 @@ fn gap(a: Corner, b: Corner, e: f64) -> f64
 }
 
 // The logarithm of an edge of length e from a to b. It may be infinite or a NaN, as where the station lies on the edge.
+#[tactic(auto, unfolding(crate::specs::EdgeTerms::logarithm))]
 pub fn logarithm(a: Corner, b: Corner, e: f64) -> f64
     ensures { result ≡ logarithm a b e }
 {
     carlson::ln((a.l + b.l + e) / gap(a, b, e))
 }
 
+#[tactic(auto, unfolding(crate::specs::EdgeTerms::dyad))]
 pub fn dyad(n: Vector, m: Vector) -> Hessian
     ensures { result ≡ dyad n m }
 {
@@ -137,6 +137,7 @@ pub fn dyad(n: Vector, m: Vector) -> Hessian
     }
 }
 
+// u s, t + u w and t - u w by functions, not operators: each is a definition of its own, with its order of roundings.
 fn vector_times(u: Vector, s: f64) -> Vector
     ensures { result ≡ vector_times u s }
 {
@@ -168,6 +169,7 @@ fn sub_times(t: Vector, u: Vector, w: f64) -> Vector
 }
 
 // The field f with the terms of the face in the plane n·r = rho that subtends omega. d is n nᵀ, made once for many stations.
+#[tactic(auto, unfolding(crate::specs::EdgeTerms::add_face_terms))]
 pub fn add_face_dyad(d: Hessian, n: Vector, rho: f64, omega: f64, f: Newtonian) -> Newtonian
     requires { d ≡ dyad n n }
     ensures { result ≡ add_face_terms n rho omega f }
@@ -191,6 +193,7 @@ pub fn add_face_terms(n: Vector, rho: f64, omega: f64, f: Newtonian) -> Newtonia
 
 // The field f with the terms of an edge of the face with the normal n: the edge's normal m, its logarithm l, and the offset
 // r of a point on it. d is n mᵀ.
+#[tactic(auto, unfolding(crate::specs::EdgeTerms::add_edge_terms))]
 pub fn add_edge_dyad(d: Hessian, n: Vector, m: Vector, l: f64, r: Vector, f: Newtonian) -> Newtonian
     requires { d ≡ dyad n m }
     ensures { result ≡ add_edge_terms n m l r f }
@@ -221,6 +224,7 @@ fn mean(a: f64, b: f64) -> f64
 }
 
 // The Hessian with the mean of its entries (i, j) and (j, i) at both.
+#[tactic(auto, unfolding(crate::specs::EdgeTerms::symmetric))]
 pub fn symmetric(t: Hessian) -> Hessian
     ensures { result ≡ symmetric t }
 {

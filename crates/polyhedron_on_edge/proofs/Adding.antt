@@ -1,22 +1,13 @@
--- The block holds the edges: what each answer of `add_dyad` does to them. Assumes nothing.
-use mathlib.Core.Bool.{Bool, cond, false, true}
-use mathlib.Core.List.{List, [], ◌++◌, ◌∷◌}
-use mathlib.Core.Logic.{⊎_elim}
-use mathlib.Core.Path.{◌∙◌, ◌≡◌, ap, refl, subst, sym}
-use Prim.Native.Nat.{◌*◌, ◌+◌, ◌<◌, ◌≤◌, suc, zero, ℕ}
-use native.Mathlib.Numerals.{add-one}
-use native.Mathlib.Omega.{arith}
-use borrow.Author.Tests.{eq-eqb, eqb-false, eqb-true, ne_eqb}
-use lib.Dec.{eqb}
-use lib.Ieee.{Float}
-use lib.ListN.{get_or-append, drop, get_or, length, length-append, length-set, set}
-use lib.Seq.{drop-cons, drop-length, get_or_at, get_or-set_other, get_or-set_same}
+-- The edges that are held: what each answer of `Edges::add` does to them. Assumes nothing.
+use Rattle.std.proofs.Common.{◌≡◌, ◌≢◌, ◌∙◌, ap, refl, subst, sym, ℕ, suc, zero, ◌+◌, ◌<◌, ◌≤◌, Bool, true, false, cond, List, [], ◌∷◌, ◌++◌, length, get_or, set, drop, ⊎_elim, add-one, arith, eq-eqb, eqb, ne_eqb, length-append, length-set, drop-cons}
+use lib.ListN.{get_or-append}
+use lib.Seq.{drop-length, get_or_at, get_or-set_other, get_or-set_same}
 use Rattle.lists.proofs.Numbers.{below?, same?}
-use Rattle.lists.specs.First.{IsFirst}
 use Rattle.newtonian.specs.declared.Hessian.{Hessian}
-use Rattle.polyhedron_on_edge.proofs.Storing.{dyad-other, dyad-stored}
-use Rattle.polyhedron_on_edge.specs.Block.{HoldsEdges, dyad_in, edge_in, has_key, no_edge, hessian_numbers, stored_dyad}
+use Rattle.polyhedron_on_edge.specs.Block.{dyad_in}
+use Rattle.polyhedron_on_edge.specs.Held.{HoldsEdges, no_edge}
 use Rattle.polyhedron_on_edge.specs.OnEdge.{Edge, add_dyad, add_infinite, add_matrices, edge_limit, infinite_entries}
+use Rattle.polyhedron_on_edge.specs.declared.Edges.{Edges}
 
 -- ---- the definition, where the key is found and where it is not
 
@@ -50,39 +41,38 @@ edge_ext p q = cc
 
 -- ---- what the count says
 
-module _ (es : List Edge) (keys : List ℕ) (dyads : List Float) (n : ℕ) (h : HoldsEdges es keys dyads n) where
-  pub held_few : n ≤ edge_limit → length es ≤ edge_limit
+module _ (es : List Edge) (held : Edges) (h : HoldsEdges es held) where
+  pub held_few : held.count ≤ edge_limit → length es ≤ edge_limit
   held_few l = ⊎_elim (λ p. absurd (omega (arith, h.many p))) (λ p. p) (below? edge_limit (length es))
 
-  pub held_count : n ≤ edge_limit → n ≡ length es
+  held_count : held.count ≤ edge_limit → held.count ≡ length es
   held_count l = h.few (held_few l)
 
-  pub held_key : n ≤ edge_limit → (i : ℕ) → i < n → get_or keys i 0 ≡ (get_or es i no_edge).key
+  held_key : held.count ≤ edge_limit → (i : ℕ) → i < held.count → get_or held.keys i 0 ≡ (get_or es i no_edge).key
   held_key l i p = ap (λ (e : Edge). e.key) (h.entries (held_few l) i (omega (arith, held_count l)))
 
-  pub held_dyad : n ≤ edge_limit → (i : ℕ) → i < n → dyad_in dyads i ≡ (get_or es i no_edge).dyad
+  held_dyad : held.count ≤ edge_limit → (i : ℕ) → i < held.count → dyad_in held.dyads i ≡ (get_or es i no_edge).dyad
   held_dyad l i p = ap (λ (e : Edge). e.dyad) (h.entries (held_few l) i (omega (arith, held_count l)))
 
   -- ---- the four answers
 
   module _ (k : ℕ) (d : Hessian) where
-    pub was_full : edge_limit < n → HoldsEdges (add_dyad k d es) keys dyads n
+    pub was_full : edge_limit < held.count → HoldsEdges (add_dyad k d es) held
     was_full l = record {
       many = λ _. l;
       few = λ p. absurd (omega (arith, add_grows k d es, h.few (omega (arith, add_grows k d es))));
       entries = λ p. absurd (omega (arith, add_grows k d es, h.few (omega (arith, add_grows k d es))));
     }
 
-    none-met : n ≤ edge_limit → ((j : ℕ) → j < n → get_or keys j 0 ≡ k → ⊥) → (j : ℕ) → j < length es → (get_or es j no_edge).key ≡ k → ⊥
-    none-met l none j p e = none j (omega (arith, held_count l)) (held_key l j (omega (arith, held_count l)) ∙ e)
-
-    module _ (l : n ≤ edge_limit) (r : ℕ) (f : IsFirst (has_key k keys) n r) (s : length dyads ≡ edge_limit * 9) where
-      pub is_found : r < n → (dyads' : List Float) → dyads' ≡ stored_dyad r (hessian_numbers (add_matrices (dyad_in dyads r) d)) dyads → HoldsEdges (add_dyad k d es) keys dyads' n
-      is_found p dyads' q =
+    -- held' is what is held after it
+    module _ (l : held.count ≤ edge_limit) (held' : Edges) where
+      pub is_found : (r : ℕ) → (r < held.count) × (get_or held.keys r 0 ≡ k) × ((j : ℕ) → j < r → get_or held.keys j 0 ≢ k)
+          → held'.count ≡ held.count → held'.keys ≡ held.keys → dyad_in held'.dyads r ≡ add_matrices (dyad_in held.dyads r) d
+          → ((j : ℕ) → j ≢ r → dyad_in held'.dyads j ≡ dyad_in held.dyads j) → HoldsEdges (add_dyad k d es) held'
+      is_found r f p q here others =
           let c = held_count l in
-          let sum = add_matrices (dyad_in dyads r) d in
           let new : Edge = record { key = (get_or es r no_edge).key; dyad = add_matrices (get_or es r no_edge).dyad d } in
-          let a = add_found k d es r (omega arith) (sym (held_key l r p) ∙ eqb-true (get_or keys r 0) k (f.here p)) (λ j m e. eqb-false (get_or keys j 0) k (f.before j m) (held_key l j (omega arith) ∙ e)) in
+          let a = add_found k d es r (omega (arith, f.0)) (sym (held_key l r f.0) ∙ f.1) (λ j m e. f.2 j m (held_key l j (omega (arith, f.0)) ∙ e)) in
           let len : length (add_dyad k d es) ≡ length es = ap length a ∙ length-set es r new in
           record {
             many = λ m. absurd (omega arith);
@@ -90,52 +80,58 @@ module _ (es : List Edge) (keys : List ℕ) (dyads : List Float) (n : ℕ) (h : 
             entries = λ _ i m.
                 ⊎_elim
                 (λ e. rw (a, q) (
-                subst (λ (j : ℕ). edge_in keys (stored_dyad r (hessian_numbers sum) dyads) j ≡ get_or (set es r new) j no_edge) (sym e) (
-                edge_ext (held_key l r p) (dyad-stored r sum dyads (omega arith) ∙ ap (λ (x : Hessian). add_matrices x d) (held_dyad l r p))
-                ∙ sym (get_or-set_same es r new no_edge (omega arith)))))
-                (λ ne. rw (a, q) (
-                edge_ext (held_key l i (omega arith)) (dyad-other r (hessian_numbers sum) dyads i ne ∙ held_dyad l i (omega arith))
-                ∙ sym (get_or-set_other es r i new no_edge ne)))
+                subst (λ (j : ℕ). ◌≡◌ {A = Edge} (record { key = get_or held.keys j 0; dyad = dyad_in held'.dyads j }) (get_or (set es r new) j no_edge)) (sym e) (
+                edge_ext (held_key l r f.0) (here ∙ ap (λ (x : Hessian). add_matrices x d) (held_dyad l r f.0))
+                ∙ sym (get_or-set_same es r new no_edge (omega (arith, f.0))))))
+                (λ ne. rw (a, q) (edge_ext (held_key l i (omega arith)) (others i ne ∙ held_dyad l i (omega arith)) ∙ sym (get_or-set_other es r i new no_edge ne)))
                 (same? i r);
           }
 
-      pub is_past : r ≡ n → n ≡ edge_limit → HoldsEdges (add_dyad k d es) keys dyads (n + 1)
-      is_past p m =
-          let a = add_new k d es (none-met l (λ j o. eqb-false (get_or keys j 0) k (f.before j (omega arith)))) in
-          let len : length (add_dyad k d es) ≡ length es + 1 = ap length a ∙ length-append es (record { key = k; dyad = d } ∷ []) in
-          let c = held_count l in
-          record { many = λ _. omega arith; few = λ o. absurd (omega arith); entries = λ o. absurd (omega arith) }
+      module _ (none : (j : ℕ) → j < held.count → get_or held.keys j 0 ≢ k) where
+        none-met : (j : ℕ) → j < length es → (get_or es j no_edge).key ≢ k
+        none-met j p e = none j (omega (arith, held_count l)) (held_key l j (omega (arith, held_count l)) ∙ e)
 
-      pub is_new : r ≡ n → n < edge_limit → length keys ≡ edge_limit → (dyads' : List Float) → dyads' ≡ stored_dyad n (hessian_numbers d) dyads
-          → HoldsEdges (add_dyad k d es) (set keys n k) dyads' (n + 1)
-      is_new p m z dyads' q =
-          let new : Edge = record { key = k; dyad = d } in
-          let a = add_new k d es (none-met l (λ j o. eqb-false (get_or keys j 0) k (f.before j (omega arith)))) in
-          let len : length (add_dyad k d es) ≡ length es + 1 = ap length a ∙ length-append es (new ∷ []) in
-          let c = held_count l in
-          record {
-            many = λ o. omega arith;
-            few = λ _. omega arith;
-            entries = λ _ i o.
-                ⊎_elim
-                (λ e. rw (a, q) (
-                subst (λ (j : ℕ). edge_in (set keys n k) (stored_dyad n (hessian_numbers d) dyads) j ≡ get_or (es ++ (new ∷ [])) j no_edge) (sym e) (
-                edge_ext (get_or-set_same keys n k 0 (omega arith)) (dyad-stored n d dyads (omega arith))
-                ∙ sym (get_or_at es new [] no_edge n (sym c)))))
-                (λ ne. rw (a, q) (
-                edge_ext (get_or-set_other keys n i k 0 ne ∙ held_key l i (omega arith)) (dyad-other n (hessian_numbers d) dyads i ne ∙ held_dyad l i (omega arith))
-                ∙ sym (get_or-append es (new ∷ []) no_edge i (omega arith))))
-                (same? i n);
-          }
+        abbrev new : Edge
+        new = record { key = k; dyad = d }
+
+        one-longer : length (add_dyad k d es) ≡ length es + 1
+        one-longer = ap length (add_new k d es none-met) ∙ length-append es (new ∷ [])
+
+        pub is_past : held.count ≡ edge_limit → held'.count ≡ held.count + 1 → HoldsEdges (add_dyad k d es) held'
+        is_past m q =
+            let c = held_count l in
+            let len = one-longer in
+            record { many = λ _. omega arith; few = λ o. absurd (omega arith); entries = λ o. absurd (omega arith) }
+
+        pub is_new : held.count < length held.keys → held'.count ≡ held.count + 1 → held'.keys ≡ set held.keys held.count k → dyad_in held'.dyads held.count ≡ d
+            → ((j : ℕ) → j ≢ held.count → dyad_in held'.dyads j ≡ dyad_in held.dyads j) → HoldsEdges (add_dyad k d es) held'
+        is_new z p q here others =
+            let a = add_new k d es none-met in
+            let len = one-longer in
+            let c = held_count l in
+            record {
+              many = λ o. omega arith;
+              few = λ _. omega arith;
+              entries = λ _ i o.
+                  ⊎_elim
+                  (λ e. rw (a, q) (
+                  subst (λ (j : ℕ). ◌≡◌ {A = Edge} (record { key = get_or (set held.keys held.count k) j 0; dyad = dyad_in held'.dyads j }) (get_or (es ++ (new ∷ [])) j no_edge)) (sym e) (
+                  edge_ext (get_or-set_same held.keys held.count k 0 z) here
+                  ∙ sym (get_or_at es new [] no_edge held.count (sym c)))))
+                  (λ ne. rw (a, q) (
+                  edge_ext (get_or-set_other held.keys held.count i k 0 ne ∙ held_key l i (omega arith)) (others i ne ∙ held_dyad l i (omega arith))
+                  ∙ sym (get_or-append es (new ∷ []) no_edge i (omega arith))))
+                  (same? i held.count);
+            }
 
   -- ---- the loop of `add_infinite`
 
-  pub infinite_more : n ≤ edge_limit → (i : ℕ) → i < n → (t : Hessian) → add_infinite (drop (i + 1) es) (infinite_entries t (dyad_in dyads i)) ≡ add_infinite (drop i es) t
+  pub infinite_more : held.count ≤ edge_limit → (i : ℕ) → i < held.count → (t : Hessian) → add_infinite (drop (i + 1) es) (infinite_entries t (dyad_in held.dyads i)) ≡ add_infinite (drop i es) t
   unfolding add_infinite
   infinite_more l i p t =
       let c : i < length es = omega (arith, held_count l) in
       rw (add-one, held_dyad l i p, drop-cons es i no_edge)
 
-  pub infinite_end : n ≤ edge_limit → (t : Hessian) → add_infinite (drop n es) t ≡ t
+  pub infinite_end : held.count ≤ edge_limit → (t : Hessian) → add_infinite (drop held.count es) t ≡ t
   unfolding add_infinite
   infinite_end l t = rw (held_count l, drop-length)

@@ -1,3 +1,3 @@
--- Laws of the block.
+-- Laws of the edges that are held.
 pub mod Storing
 pub mod Adding

@@ -1,11 +1,9 @@
-// The edges that give a logarithm that is not finite: keys, nine numbers for each, and a count, in arrays that the caller
-// lends.
+// The edges that give a logarithm that is not finite: keys, nine numbers for each, and a count.
 #![tactic(auto)]
 
-ghost use Rattle.std.specs.Prelude.{◌≡◌, List, ℕ, ◌+◌, ◌*◌, ◌<◌, ◌≤◌};
-ghost use Rattle.lists.specs.First.{IsFirst};
+ghost use Rattle.std.specs.Prelude.{◌≡◌, [], List, ℕ, suc, ◌≢◌, ◌<◌, ◌≤◌, MatchOption, slice_index};
 ghost use Rattle.polyhedron_on_edge.specs.OnEdge.{edge_limit, edge_key, Edge, add_matrices, add_dyad, infinite_entry, infinite_row, infinite_entries, add_infinite};
-ghost use Rattle.polyhedron_on_edge.specs.Block.{hessian_numbers, dyad_in, stored_dyad, has_key, Sized, HoldsEdges};
+ghost use Rattle.polyhedron_on_edge.specs.Block.{hessian_numbers, dyad_in};
 
 use mesh_orders::edges::number;
 use newtonian::{Hessian, Vector, add_vectors};
@@ -13,32 +11,18 @@ use newtonian::{Hessian, Vector, add_vectors};
 // Document 01's limit of the different edges that may give a logarithm that is not finite.
 pub const EDGE_LIMIT: usize = 64;
 
-// Nine numbers to an edge: EDGE_LIMIT * 9.
+// Nine numbers to an edge: EDGE_LIMIT * 9. Document 01 asks for one array of so many numbers, not for one of Hessians.
 pub const BLOCK: usize = 576;
 
 // The key of the edge between the vertices i and j.
+#[tactic(auto, unfolding(crate::specs::OnEdge::edge_key))]
 pub fn edge_key(i: u32, j: u32) -> u64
     ensures { result ≡ edge_key i j }
 {
-    if i < j {
-        return number(i, j);
-    }
-    number(j, i)
+    if i < j { number(i, j) } else { number(j, i) }
 }
 
-// The first place among the first count keys that holds key, or count.
-fn find(keys: &[u64; EDGE_LIMIT], count: usize, key: u64) -> usize
-    requires { count ≤ edge_limit }
-    ensures { IsFirst (has_key key keys.now) count result }
-{
-    for i in 0..count {
-        if keys[i] == key {
-            return i;
-        }
-    }
-    count
-}
-
+#[tactic(auto, unfolding(crate::specs::OnEdge::add_matrices))]
 fn add_matrices(a: Hessian, b: Hessian) -> Hessian
     ensures { result ≡ add_matrices a b }
 {
@@ -49,6 +33,7 @@ fn add_matrices(a: Hessian, b: Hessian) -> Hessian
     }
 }
 
+#[tactic(auto, unfolding(crate::specs::Block::hessian_numbers))]
 fn hessian_numbers(d: Hessian) -> [f64; 9]
     ensures { result ≡ hessian_numbers d }
 {
@@ -57,82 +42,16 @@ fn hessian_numbers(d: Hessian) -> [f64; 9]
     ]
 }
 
-// The sum that edge i of the block has.
-fn dyad_at(dyads: &[f64; BLOCK], i: usize) -> Hessian
-    requires { i < edge_limit }
-    ensures { result ≡ dyad_in dyads.now i }
-{
-    let n = i * 9;
-    Hessian {
-        x: Vector {
-            x: dyads[n],
-            y: dyads[n + 1],
-            z: dyads[n + 2],
-        },
-        y: Vector {
-            x: dyads[n + 3],
-            y: dyads[n + 4],
-            z: dyads[n + 5],
-        },
-        z: Vector {
-            x: dyads[n + 6],
-            y: dyads[n + 7],
-            z: dyads[n + 8],
-        },
-    }
-}
-
-fn store(dyads: &mut [f64; BLOCK], i: usize, d: [f64; 9])
-    requires { i < edge_limit }
-    ensures { dyads.new ≡ stored_dyad i d dyads.old }
-{
-    for q in 0..9usize {
-        dyads[i * 9 + q] = d[q];
-    }
-}
-
-// Adds a face's dyad to the edge's sum, or the edge to the block. The answer is the new count, one past the limit where
-// there are too many edges.
-pub fn add_dyad(
-    keys: &mut [u64; EDGE_LIMIT],
-    dyads: &mut [f64; BLOCK],
-    count: usize,
-    key: u64,
-    d: Hessian,
-) -> usize
-    requires { Sized keys.old dyads.old count }
-    ensures sized { Sized keys.new dyads.new result }
-    ensures holds_edges { (es : List Edge) → HoldsEdges es keys.old dyads.old count →
-        HoldsEdges (add_dyad key d es) keys.new dyads.new result }
-{
-    if EDGE_LIMIT < count {
-        return count;
-    }
-    let at = find(keys, count, key);
-    if at < count {
-        store(
-            dyads,
-            at,
-            hessian_numbers(add_matrices(dyad_at(dyads, at), d)),
-        );
-        return count;
-    }
-    if count == EDGE_LIMIT {
-        return count + 1;
-    }
-    keys[count] = key;
-    store(dyads, count, hessian_numbers(d));
-    count + 1
-}
-
 // Between faces in one plane an edge's sum vanishes, and so does the term.
+#[tactic(auto, unfolding(crate::specs::OnEdge::infinite_entry))]
 fn infinite_entry(t: f64, x: f64) -> f64
     ensures { result ≡ infinite_entry t x }
 {
     if doubles::abs(x) > 1e-12 {
-        return t + x * (1.0 / 0.0);
+        t + x * f64::INFINITY
+    } else {
+        t
     }
-    t
 }
 
 fn infinite_row(t: Vector, e: Vector) -> Vector
@@ -145,6 +64,7 @@ fn infinite_row(t: Vector, e: Vector) -> Vector
     }
 }
 
+#[tactic(auto, unfolding(crate::specs::OnEdge::infinite_entries))]
 fn infinite_entries(t: Hessian, e: Hessian) -> Hessian
     ensures { result ≡ infinite_entries t e }
 {
@@ -155,14 +75,102 @@ fn infinite_entries(t: Hessian, e: Hessian) -> Hessian
     }
 }
 
-// The Hessian with the entries that the block's edges make infinite.
-pub fn add_infinite(t: Hessian, dyads: &[f64; BLOCK], count: usize) -> Hessian
-    requires { count ≤ edge_limit }
-    ensures { (es : List Edge) (keys : List ℕ) → HoldsEdges es keys dyads.now count → result ≡ add_infinite es t }
-{
-    let mut sums = t;
-    for i in 0..count {
-        sums = infinite_entries(sums, dyad_at(dyads, i));
+// The edges that a station has met, as a list of at most EDGE_LIMIT and the count of it; past the limit the count alone says
+// that they are too many. Keys and dyads past the count are not read, so a walk may begin with whatever another left there.
+#[derive(Clone, Copy)]
+pub struct Edges {
+    keys: [u64; EDGE_LIMIT],
+    dyads: [f64; BLOCK],
+    pub count: usize,
+    ghost few: { count ≤ suc edge_limit },
+}
+
+impl Edges {
+    ghost use Rattle.polyhedron_on_edge.specs.Held.{HoldsEdges};
+
+    pub fn new() -> Edges
+        ensures { HoldsEdges [] result }
+    {
+        Edges {
+            keys: [0; EDGE_LIMIT],
+            dyads: [0.0; BLOCK],
+            count: 0,
+        }
     }
-    sums
+
+    // The sum that edge i has.
+    #[tactic(auto, unfolding(crate::specs::Block::dyad_in))]
+    fn dyad(&self, i: usize) -> Hessian
+        requires { i < edge_limit }
+        ensures { result ≡ dyad_in self.now.dyads i }
+    {
+        let n = i * 9;
+        Hessian {
+            x: Vector {
+                x: self.dyads[n],
+                y: self.dyads[n + 1],
+                z: self.dyads[n + 2],
+            },
+            y: Vector {
+                x: self.dyads[n + 3],
+                y: self.dyads[n + 4],
+                z: self.dyads[n + 5],
+            },
+            z: Vector {
+                x: self.dyads[n + 6],
+                y: self.dyads[n + 7],
+                z: self.dyads[n + 8],
+            },
+        }
+    }
+
+    fn store(&mut self, i: usize, d: Hessian)
+        requires { i < edge_limit }
+        ensures keys { self.new.keys ≡ self.old.keys }
+        ensures count { self.new.count ≡ self.old.count }
+        ensures here { dyad_in self.new.dyads i ≡ d }
+        ensures others { (j : ℕ) → j ≢ i → dyad_in self.new.dyads j ≡ dyad_in self.old.dyads j }
+    {
+        let n = i * 9;
+        self.dyads[n..n + 9].copy_from_slice(&hessian_numbers(d));
+    }
+
+    // The first place that holds key.
+    fn find(&self, key: u64) -> Option<usize>
+        requires { self.now.count ≤ edge_limit }
+        ensures { MatchOption result ((j : ℕ) → j < self.now.count → slice_index self.now.keys j ≢ key)
+            (λ at. (at < self.now.count) × (slice_index self.now.keys at ≡ key) × ((j : ℕ) → j < at → slice_index self.now.keys j ≢ key)) }
+    {
+        self.keys[..self.count].iter().position(|k| *k == key)
+    }
+
+    // Adds a face's dyad to the edge's sum, or the edge to the list.
+    pub fn add(&mut self, key: u64, d: Hessian)
+        ensures { (es : List Edge) → HoldsEdges es self.old → HoldsEdges (add_dyad key d es) self.new }
+    {
+        if EDGE_LIMIT < self.count {
+            return;
+        }
+        if let Some(at) = self.find(key) {
+            self.store(at, add_matrices(self.dyad(at), d));
+            return;
+        }
+        if self.count < EDGE_LIMIT {
+            self.keys[self.count] = key;
+            self.store(self.count, d);
+        }
+        self.count += 1;
+    }
+
+    // The Hessian with the entries that the edges make infinite.
+    pub fn add_infinite(&self, t: Hessian) -> Hessian
+        requires { self.now.count ≤ edge_limit }
+        ensures { (es : List Edge) → HoldsEdges es self.now → result ≡ add_infinite es t }
+    {
+        let mut sums = t;
+        for i in 0..self.count {
+            sums = infinite_entries(sums, self.dyad(i));
+        }
+        sums
+    }
 }

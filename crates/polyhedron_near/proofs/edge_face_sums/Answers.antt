@@ -1,43 +1,41 @@
 -- `polyhedron_near::edge_face_sums` meets its contract: after k faces the station carries their sums. Assumes nothing.
-use mathlib.Core.Path.{◌≡◌}
-use Prim.Native.Nat.{◌-◌}
-use native.Mathlib.Omega.{arith}
+use Rattle.std.proofs.Common.{◌≡◌, ◌+◌, List, Float, ℕ, arith}
 use Rattle.newtonian.specs.Fold.{Fold}
 use Rattle.mesh.specs.Surface.{face_count}
-use Rattle.polyhedron_edge_face_sums.specs.EdgeFaceSums.{add_triangle, no_faces, sums_of, triangle_of}
-use Rattle.polyhedron_edge_face_sums.proofs.Carrying.{carries_none}
 use Rattle.lanes.proofs.Folds.{fold-add}
+use Rattle.polyhedron_edge_face_sums.specs.Carried.{Adds, Carries}
+use Rattle.polyhedron_edge_face_sums.specs.EdgeFaceSums.{add_triangle, no_faces, sums_of, triangle_of}
+use Rattle.polyhedron_edge_face_sums.specs.declared.Running.{Running}
+use Rattle.newtonian.specs.declared.Vector.{Vector}
 use Rattle.polyhedron_near.proofs.edge_face_sums.Goals as goal
+use Rattle.polyhedron_near.proofs.edge_face_sums.Goals.{else-loop-k-test, then-loop-k-test+else-total-k-gt8}
+
+-- the m faces from k on, after the first k
+more : (p : Vector) (v : List Float) (f : List ℕ) (k m n : ℕ) (r s : Running) → k + m ≡ n → Adds p v f k m r s
+    → Carries (Fold k (λ j. add_triangle p (triangle_of v f j)) no_faces) r → Carries (Fold n (λ j. add_triangle p (triangle_of v f j)) no_faces) s
+more p v f k m n r s e a h = rw (← e, fold-add k m (λ j. add_triangle p (triangle_of v f j)) no_faces) (a _ h)
 
 pub loop-k-init : goal.loop-k-init
 unfolding Fold
-loop-k-init c = (omega arith, record { few = omega arith; keyed = c.keys_of_one-keys.ensures; filled = c.dyads_of_one-dyads.ensures }, carries_none _ _ c.zero_field.result c.zero_field.ensures)
-
-pub add_faces-run-requires : goal.add_faces-run-requires
-add_faces-run-requires c =
-    let w = c.fewer-m.ensures in
-    (c.loop-k.invariant.1, c.requires, omega (arith, w), omega (arith, w, c.loop-k-test.true))
-
-pub overflow_add-k : goal.overflow_add-k
-overflow_add-k c = omega (arith, c.fewer-m.ensures, c.loop-k-test.true, c.requires.faces.few)
-
-pub loop-k-smaller : goal.loop-k-smaller
-loop-k-smaller c = omega (arith, c.fewer-m.ensures, c.loop-k-test.true)
+loop-k-init c = (omega arith, c.new-run.ensures)
 
 pub loop-k-preserved : goal.loop-k-preserved
 loop-k-preserved c =
-    let l = c.loop-k in
     let a = c.args in
-    let m = c.fewer-m in (
-      omega (arith, m.ensures, c.loop-k-test.true),
-      c.add_faces-run.ensures.sized,
-      rw (fold-add l.k m.result (λ j. add_triangle a.p (triangle_of a.verts.now a.faces.now j)) no_faces) (c.add_faces-run.ensures.adds _ l.invariant.2),
-    )
+    let l = c.loop-k in
+    (omega arith, more a.p a.verts.now a.faces.now l.k c.min.result (l.k + 8) l.run c.add_faces.new.run (omega (arith, c.min.ensures)) c.add_faces.ensures l.invariant.1)
 
 pub returns : goal.returns
 unfolding sums_of
 returns c =
-    let l = c.loop-k in
     let a = c.args in
-    let e : l.k ≡ face_count a.faces.now = omega (arith, l.invariant.0, c.loop-k-test.false) in
-    c.near_field.ensures a.p a.verts.now a.faces.now l.keys (rw (← e) l.invariant.2)
+    let l = c.loop-k in
+    c.near_field.ensures a.p a.verts.now a.faces.now
+    (elim c.loop-k-test.branch [
+      | else-loop-k-test w ↦
+          let e : l.k ≡ face_count a.faces.now = omega (arith, l.invariant.0) in
+          rw (w.run-is, ← e) l.invariant.1
+      | then-loop-k-test+else-total-k-gt8 w ↦
+          rw w.run-is
+          (more a.p a.verts.now a.faces.now l.k w.min.result (face_count a.faces.now) l.run w.add_faces.new.run (omega (arith, w.min.ensures)) w.add_faces.ensures l.invariant.1)
+    ])

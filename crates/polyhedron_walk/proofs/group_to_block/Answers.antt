@@ -1,32 +1,27 @@
--- `polyhedron_walk::group_to_block` meets its contract. Assumes nothing.
-use mathlib.Core.Bool.{true}
-use Prim.Native.Nat.{◌-◌, ◌<◌}
-use native.Mathlib.Omega.{arith}
-use Rattle.polyhedron_blocks.specs.Blocks.{block_size}
-use Rattle.polyhedron_blocks.proofs.Turns.{blocked_set, one_more}
+-- `polyhedron_walk::group_to_block` meets its contract: the first j stations have the group, and the others what they had. Assumes nothing.
+use Rattle.std.proofs.Common.{◌≡◌, ◌<◌, ◌∙◌, arith, length, get_or, ⊎_elim, subst, sym, set}
+use Rattle.std.proofs.lemmas.List.{get_or_default}
+use Rattle.std.proofs.Math.Seq.{get_or-set_other, get_or-set_same}
+use Rattle.lists.proofs.Numbers.{same?}
+use Rattle.polyhedron_blocks.specs.Blocks.{no_run, no_vector}
+use Rattle.polyhedron_edge_face_sums.specs.Carried.{Adds}
 use Rattle.polyhedron_walk.proofs.group_to_block.Goals as goal
-
-pub loop-j-init : goal.loop-j-init
-loop-j-init c = (omega arith, c.requires.blocked.0, λ i l m s h. (λ k. absurd (omega arith), λ k. h))
-
-pub group_if_near-r-requires : goal.group_if_near-r-requires
-group_if_near-r-requires c =
-    let l = c.loop-j in
-    record {
-      sized = (l.invariant.1.sized l.j (omega (arith, c.loop-j-test.true)), c.requires.blocked.1, c.requires.blocked.2, c.requires.blocked.3);
-      describes = c.requires.describes;
-      dyads = c.requires.dyads;
-    }
 
 pub loop-j-preserved : goal.loop-j-preserved
 loop-j-preserved c =
     let l = c.loop-j in
-    let t : l.j < block_size = omega (arith, c.loop-j-test.true) in
-    let w = c.group_if_near-r in (
-      omega (arith, t),
-      blocked_set l.keys l.dyads l.out l.j w.new.keys w.new.dyads w.result l.invariant.1 t w.ensures.sized_2,
-      λ i h m s g. one_more l.keys l.dyads l.out l.j w.new.keys w.new.dyads w.result l.invariant.1 t i s _ (λ e x. rw e (w.ensures.adds (rw e at m) s (rw e at x))) (l.invariant.2 i h m s g),
+    let a = c.args in
+    let w = c.group_if_near in
+    let here : l.j < length l.runs = omega arith in
+    let was : get_or l.runs l.j c.index-runs-j.result ≡ get_or a.runs.now l.j no_run = get_or_default l.runs l.j c.index-runs-j.result no_run here ∙ l.invariant.1 l.j (omega arith) in (
+      λ i h m.
+          ⊎_elim
+          (λ e. subst (λ i'. Adds (get_or a.block.now.places i' no_vector) a.verts.now a.faces.now a.first a.n (get_or a.runs.now i' no_run) (get_or (set l.runs l.j w.new.run) i' no_run)) (sym e)
+          (rw (get_or-set_same l.runs l.j w.new.run no_run here, ← was) (w.ensures (rw e at m))))
+          (λ n. rw (get_or-set_other l.runs l.j i w.new.run no_run n) (l.invariant.0 i (omega (arith, n)) m))
+          (same? i l.j),
+      λ i h. get_or-set_other l.runs l.j i w.new.run no_run (λ e. omega arith) ∙ l.invariant.1 i (omega arith),
     )
 
 pub returns : goal.returns
-returns c = let l = c.loop-j in record { blocked_2 = l.invariant.1; block_adds = λ i h m s g. (l.invariant.2 i h m s g).0 (omega arith) }
+returns c = λ i h m. c.loop-j.invariant.0 i (omega arith) m
