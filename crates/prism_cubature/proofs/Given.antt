@@ -1,6 +1,5 @@
 -- What `gauss_legendre` gives of an order up to 16. States: `is_rule`. Assumes nothing.
 use mathlib.Core.Path.{◌≡◌, refl}
-use mathlib.Core.Logic.{⊎_elim}
 use Prim.Native.Nat.{ℕ, zero, suc, ◌≤◌}
 use native.Mathlib.Omega.{arith}
 use lib.Ieee.{nan}

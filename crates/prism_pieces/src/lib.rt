@@ -41,6 +41,7 @@ const MAX_ORDER: u32 = 16;
 
 const MAX_POINTS: u32 = 512;
 
+#[tactic(auto, unfolding(crate::specs::Choice::squared_outside))]
 fn squared_outside(p: f64, lo: f64, hi: f64) -> f64
     ensures { result ≡ squared_outside p lo hi }
 {
@@ -48,6 +49,7 @@ fn squared_outside(p: f64, lo: f64, hi: f64) -> f64
     d * d
 }
 
+#[tactic(auto, unfolding(crate::specs::Choice::distance))]
 fn distance(p: Vector, lo: Vector, hi: Vector) -> f64
     ensures { result ≡ distance p lo hi }
 {
@@ -57,7 +59,7 @@ fn distance(p: Vector, lo: Vector, hi: Vector) -> f64
     roots::root(-0.0 + x + y + z)
 }
 
-// x rounded up, but at least 1, and 17 for all that is above 16.
+// x rounded up, but at least 1, and 17 for all that is above 16. Counted, since std's rounding up of a NaN or of a large number does not fit a u32.
 fn ceiling(x: f64) -> u32
     ensures { result ≡ ceiling x }
 {
@@ -87,6 +89,7 @@ fn affordable(l: u32, m: u32, n: u32) -> bool
     l * m * n <= MAX_POINTS
 }
 
+#[tactic(auto, unfolding(crate::specs::Choice::last_longest))]
 fn last_longest(h: Vector) -> Axis
     ensures { result ≡ last_longest h }
 {
@@ -97,6 +100,7 @@ fn last_longest(h: Vector) -> Axis
     }
 }
 
+#[tactic(auto, unfolding(crate::specs::Choice::longest))]
 fn longest(rule: AxisRule, h: Vector) -> Axis
     ensures { result ≡ longest rule h }
 {
@@ -114,6 +118,7 @@ fn shortest(h: Vector) -> f64
 
 impl Axis {
     // The entry of v along it.
+    #[tactic(auto, unfolding(crate::specs::Choice::along))]
     fn along(self, v: Vector) -> f64
         ensures { result ≡ along self v }
     {
@@ -125,6 +130,7 @@ impl Axis {
     }
 
     // v with t along it.
+    #[tactic(auto, unfolding(crate::specs::Choice::with))]
     fn with(self, t: f64, v: Vector) -> Vector
         ensures { result ≡ with self t v }
     {
@@ -136,6 +142,7 @@ impl Axis {
     }
 }
 
+#[tactic(auto, unfolding(crate::specs::Choice::corner_distance))]
 fn corner_distance(p: Vector, lo: Vector, hi: Vector, k: u32) -> f64
     ensures { result ≡ corner_distance p lo hi k }
 {
@@ -156,6 +163,7 @@ fn farthest_corner(p: Vector, lo: Vector, hi: Vector) -> f64
 }
 
 // Whether the corner sums' error is above TOL of the potential v; r is the farthest corner's distance.
+#[tactic(auto, unfolding(crate::specs::Choice::too_rough))]
 fn too_rough(r: f64, v: f64) -> bool
     ensures { result ≡ too_rough r v }
 {
@@ -163,6 +171,7 @@ fn too_rough(r: f64, v: f64) -> bool
         > TOL * doubles::abs(v)
 }
 
+#[tactic(auto, unfolding(crate::specs::Choice::bisected))]
 fn bisected(a: Axis, lo: Vector, hi: Vector) -> Piece
     ensures { result ≡ bisected a lo hi }
 {
@@ -173,6 +182,7 @@ fn bisected(a: Axis, lo: Vector, hi: Vector) -> Piece
 }
 
 // p is outside, and the cubature not affordable.
+#[tactic(auto, unfolding(crate::specs::Choice::piece_near))]
 fn piece_near(rule: AxisRule, p: Vector, lo: Vector, hi: Vector, h: Vector) -> Piece
     ensures { result ≡ piece_near rule p lo hi h }
 {
@@ -203,6 +213,7 @@ fn piece_outside(rule: AxisRule, d: f64, p: Vector, lo: Vector, hi: Vector) -> P
 }
 
 // The field of the prism as a whole, or its halves.
+#[tactic(auto, unfolding(crate::specs::Choice::piece_of))]
 pub fn piece_of(rule: AxisRule, p: Vector, lo: Vector, hi: Vector) -> Piece
     ensures { result ≡ piece_of rule p lo hi }
 {
