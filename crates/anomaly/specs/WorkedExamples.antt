@@ -1,4 +1,4 @@
--- Document 01's reference value. States: `total-field-of-3-4-0`: the total field of (0, 0, 0) and (3, 4, 0) is 5. Assumes nothing.
+-- Document 01's reference value. States: `total_field_of_3_4_0`: the total field of (0, 0, 0) and (3, 4, 0) is 5. Assumes nothing.
 use Rattle.std.specs.Prelude.{◌≡◌, refl, Float}
 use Rattle.std.specs.Float.Ieee.{of_bits, add, mul, div}
 use Rattle.doubles.specs.Constants.{0·0, 3·0, 4·0, 5·0}

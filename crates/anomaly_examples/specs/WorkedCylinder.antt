@@ -1,5 +1,5 @@
--- Worked values of the cylinder, for μ₀/4π = 1 and the axis z. States, each number within 10⁻¹⁴: `inside-a-cylinder`: a magnetisation of 1 has the field μ₀/2 = 2π
--- across the axis, and μ₀ = 4π along it; `outside-a-cylinder`: at twice the radius it has a quarter of that across the axis: along itself where it points away from the
+-- Worked values of the cylinder, for μ₀/4π = 1 and the axis z. States, each number within 10⁻¹⁴: `inside_a_cylinder`: a magnetisation of 1 has the field μ₀/2 = 2π
+-- across the axis, and μ₀ = 4π along it; `outside_a_cylinder`: at twice the radius it has a quarter of that across the axis: along itself where it points away from the
 -- axis, and against itself where it points aside. Assumes nothing.
 use Rattle.std.specs.Prelude.{◌≡◌, refl, Bool, true, ◌&&◌, Float}
 use Rattle.std.specs.Float.Ieee.{neg, of_bits, add, sub, mul, div, lt}

@@ -1,5 +1,5 @@
--- The worked figures of the Rust's documentation (Chen, Brug & Goldfarb 1991, Table I; Osborn 1945). States: `factors-of-a-sphere`: the demagnetising factors are
--- 1/3 each, within 10⁻¹⁵; `along-a-prolate-spheroid`: 0.1736 along the long axis of a 2:1 prolate spheroid; `across-a-disc`: 0.9845 across a 100:1 disc; these two
+-- The worked figures of the Rust's documentation (Chen, Brug & Goldfarb 1991, Table I; Osborn 1945). States: `factors_of_a_sphere`: the demagnetising factors are
+-- 1/3 each, within 10⁻¹⁵; `along_a_prolate_spheroid`: 0.1736 along the long axis of a 2:1 prolate spheroid; `across_a_disc`: 0.9845 across a 100:1 disc; these two
 -- within half a unit of the last digit. Assumes nothing.
 use Rattle.std.specs.Prelude.{◌≡◌, refl, Bool, true, false, ◌&&◌, Float}
 use Rattle.std.specs.Float.{binary64}

@@ -1,5 +1,5 @@
--- The worked figure of the Rust's documentation. States: `two-equations`: x + 2y = 5 and 3x + 4y = 6, with z = 0 as the third equation, give (-4, 4.5, 0), each
--- within 10⁻¹⁴. And of the choice of the pivot: `last-of-equals`: of 1, -1 and 1 the last; `nan-above-numbers`: a NaN before any number. Assumes nothing.
+-- The worked figure of the Rust's documentation. States: `two_equations`: x + 2y = 5 and 3x + 4y = 6, with z = 0 as the third equation, give (-4, 4.5, 0), each
+-- within 10⁻¹⁴. And of the choice of the pivot: `last_of_equals`: of 1, -1 and 1 the last; `nan-above-numbers`: a NaN before any number. Assumes nothing.
 use Rattle.std.specs.Prelude.{◌≡◌, refl, Bool, true, false, ◌&&◌, Float}
 use Rattle.std.specs.Float.{nan, binary64}
 use Rattle.std.specs.Float.Ieee.{of_bits, add, sub, mul, div, neg, lt, le, eq, is_nan}

@@ -1,4 +1,4 @@
--- A worked value of the magnetisation. States: `magnetisation-of-a-sphere`: a sphere, whose demagnetising factors are 1/3, of susceptibility χ = 3 in a field of 4
+-- A worked value of the magnetisation. States: `magnetisation_of_a_sphere`: a sphere, whose demagnetising factors are 1/3, of susceptibility χ = 3 in a field of 4
 -- is magnetised at χ/(1 + χ/3) times the field, which is 6, within 10⁻¹⁴. Assumes nothing.
 use Rattle.std.specs.Prelude.{◌≡◌, refl, Bool, true, ◌&&◌, Float}
 use Rattle.std.specs.Float.Ieee.{round, of_bits, add, sub, mul, div, neg, lt, le, eq, is_nan}

@@ -1,4 +1,4 @@
--- The worked figure of the Rust's documentation. States: `above-a-sphere`: a 5 m sphere, its centre 20 m down, that is magnetised at 1 A/m along a vertical field of
+-- The worked figure of the Rust's documentation. States: `above_a_sphere`: a 5 m sphere, its centre 20 m down, that is magnetised at 1 A/m along a vertical field of
 -- 50,000 n_t adds 13.09 n_t straight above it (Blakely's 2μ₀m/4πz³), within 0.01 n_t. Assumes nothing.
 use Rattle.std.specs.Prelude.{◌≡◌, refl, true, Float}
 use Rattle.std.specs.Float.{binary64}

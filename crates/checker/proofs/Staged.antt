@@ -1,4 +1,4 @@
--- The stages in order are `checkerCause` (`staged`), and the answer is that of it (`refusing`, `accepting`). Assumes nothing.
+-- The stages in order are `checker_cause` (`staged`), and the answer is that of it (`refusing`, `accepting`). Assumes nothing.
 use mathlib.Core.Path.{◌≡◌, refl, ◌∙◌}
 use mathlib.Core.List.{List, [], ◌∷◌}
 use Prim.Native.Nat.{ℕ}

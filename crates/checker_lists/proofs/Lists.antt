@@ -1,4 +1,4 @@
--- The lists of a sheet as they are read, and what is known of them once none of the causes 16, 1, 2, 3, 4, 17 and 18 holds: a body (`now-ready`) and its
+-- The lists of a sheet as they are read, and what is known of them once none of the causes 16, 1, 2, 3, 4, 17 and 18 holds: a body (`now_ready`) and its
 -- order list (`in_order`). Assumes nothing.
 use mathlib.Core.Path.{◌≡◌, refl, sym, ap, ap₂, ◌∙◌}
 use mathlib.Core.Bool.{Bool, true, false, ◌&&◌, ◌||◌}

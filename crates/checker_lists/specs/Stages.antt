@@ -1,5 +1,5 @@
--- The checker's causes in stages, as the code tries them after `openingCause` (16, 1 and 2), and what is known at each. `b` is the sheet's bytes, `v`, `f` and `o` the
--- vertices, faces and order list that were read from it. Definitions only; crate checker shows that the stages in order are `checkerCause`.
+-- The checker's causes in stages, as the code tries them after `opening_cause` (16, 1 and 2), and what is known at each. `b` is the sheet's bytes, `v`, `f` and `o` the
+-- vertices, faces and order list that were read from it. Definitions only; crate checker shows that the stages in order are `checker_cause`.
 use Rattle.std.specs.Prelude.{◌≡◌, false, List, ℕ, ◌*◌, ◌≤◌, Float, length}
 use Rattle.refusals.specs.Causes.{or_else, first_of}
 use Rattle.refusals.specs.declared.Cause.{Cause}

@@ -1,4 +1,4 @@
--- What is found at each stage is the outcome of the stages: `lists-first`, `volume-next`, `stations-last`. Assumes nothing.
+-- What is found at each stage is the outcome of the stages: `lists_first`, `volume-next`, `stations-last`. Assumes nothing.
 use mathlib.Core.Path.{◌≡◌}
 use mathlib.Core.List.{List}
 use Prim.Native.Nat.{ℕ}

@@ -1,4 +1,4 @@
--- Causes tried by blocks. States: `block-passed`: none so far, and none in the next block; `block_refused`: the first cause of the block is the first of all. Assumes nothing.
+-- Causes tried by blocks. States: `block_passed`: none so far, and none in the next block; `block_refused`: the first cause of the block is the first of all. Assumes nothing.
 use mathlib.Core.Path.{◌≡◌, refl, sym, ap, ◌∙◌}
 use Prim.Native.Nat.{ℕ, zero, suc, ◌+◌, ◌-◌, ◌≤◌}
 use native.Mathlib.Omega.{arith}

@@ -1,4 +1,4 @@
--- Comparisons of doubles, infinities and NaNs included. States: `float-le-trans`: ≤ is transitive; `number-le-self`, `lt-le`; `lt_not_le`: of two numbers, infinities included, the
+-- Comparisons of doubles, infinities and NaNs included. States: `float_le_trans`: ≤ is transitive; `number-le_self`, `lt-le`; `lt_not_le`: of two numbers, infinities included, the
 -- first is less exactly where the second is not less than or equal to it. Assumes nothing.
 use mathlib.Core.Path.{◌≡◌, refl, sym, ap, ◌∙◌}
 use mathlib.Core.Bool.{Bool, true, false, not, ◌&&◌, ◌||◌, false≢true}

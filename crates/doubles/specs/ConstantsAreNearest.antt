@@ -1,4 +1,4 @@
--- States: `constants-are-nearest`: each constant with a decimal value is the double nearest that value. Assumes nothing.
+-- States: `constants_are_nearest`: each constant with a decimal value is the double nearest that value. Assumes nothing.
 use Rattle.std.specs.Prelude.{◌≡◌, refl, [], ◌∷◌, false, ℕ, ◌^◌, Float}
 use Rattle.std.specs.Float.{binary64}
 use Rattle.std.specs.Float.Ieee.{round, of_bits}

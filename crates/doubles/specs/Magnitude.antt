@@ -17,7 +17,7 @@ negative (inf s) = s
 negative (fin s m e) = s
 
 -- finite, and its sign bit is clear: +0 is in, -0 is not. Beside it stand lib.Ieee.Positive's `positive`, finite and above zero, and in `special_laws` `unsigned`,
--- which has NaN and +∞ too, and `notBelowZero`, which has -0 too.
+-- which has NaN and +∞ too, and `not_below_zero`, which has -0 too.
 abbrev pub finite_unsigned : Float → Bool
 finite_unsigned nan = false
 finite_unsigned (inf s) = false

@@ -1,4 +1,4 @@
--- Folds of folds. States: `fold-add`: n turns after k; `fold_same`: two steps that are the same; `fold-nested`: m times n turns, by n at a time. Assumes nothing.
+-- Folds of folds. States: `fold-add`: n turns after k; `fold_same`: two steps that are the same; `fold_nested`: m times n turns, by n at a time. Assumes nothing.
 use Rattle.std.proofs.Common.{◌≡◌, ℕ, zero, suc, ◌+◌, ◌*◌, ◌<◌, refl, ap, ◌∙◌, arith}
 use Rattle.newtonian.specs.Fold.{Fold, fold_more}
 

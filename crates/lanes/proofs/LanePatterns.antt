@@ -1,5 +1,5 @@
--- The patterns of a lane. States: `less-number`: the smaller of x and a number is no NaN; `pattern-is`: what `pattern_of` answers; `scaled-is`: n without a shift that
--- differs from lane to lane; `assembled-root`: what `assembled` answers. Assumes nothing.
+-- The patterns of a lane. States: `less-number`: the smaller of x and a number is no NaN; `pattern_is`: what `pattern_of` answers; `scaled-is`: n without a shift that
+-- differs from lane to lane; `assembled_root`: what `assembled` answers. Assumes nothing.
 use Rattle.std.proofs.Common.{◌≡◌, ℕ, zero, suc, ◌+◌, ◌-◌, ◌*◌, ◌/◌, ◌%◌, ◌^◌, ◌<◌, ◌≤◌, Bool, true, false, cond, not, T, sym, refl, ap, ◌∙◌, arith}
 use native.Mathlib.Nat.{div-div-eq-div-mul}
 use lib.Bits.{bit_and, and_zero_r, and_mask}

@@ -1,5 +1,5 @@
--- Tests told by the sign bit of a number of 64 digits, which is clear where the number is below 2^63. States: `or-clear`: of a bit-or, both parts have it clear;
--- `normal-clear`: what `not_normal` tests; `near-clear`: what `not_nearest` tests. Assumes nothing.
+-- Tests told by the sign bit of a number of 64 digits, which is clear where the number is below 2^63. States: `or_clear`: of a bit-or, both parts have it clear;
+-- `normal_clear`: what `not_normal` tests; `near_clear`: what `not_nearest` tests. Assumes nothing.
 use Rattle.std.proofs.Common.{◌≡◌, ℕ, ◌+◌, ◌-◌, ◌*◌, ◌/◌, ◌%◌, ◌^◌, ◌<◌, ◌≤◌, ◌∙◌, subst, arith}
 use lib.Bits.{bit_and, bit_or, or_add_and, and_le_l, and_le_r, and_mask}
 use Rattle.roots.specs.NearestWhole.{Near, scaled_significand}

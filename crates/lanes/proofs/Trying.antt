@@ -1,5 +1,5 @@
 -- The loops towards the roots of n lanes. States: `none-known`, `one_known`, `all_known`: the loop that takes the patterns begins, goes on and ends; `none_tried`,
--- `one-tried`, `all-tried`: so does the loop that decides; `all-clear`: where no flag is set, all lanes are settled; `kept-filled`: a loop that sets lane k to g k may leave out a lane that is g k already. Assumes nothing.
+-- `one_tried`, `all_tried`: so does the loop that decides; `all_clear`: where no flag is set, all lanes are settled; `kept-filled`: a loop that sets lane k to g k may leave out a lane that is g k already. Assumes nothing.
 use Rattle.std.proofs.Common.{◌≡◌, ℕ, ◌+◌, ◌*◌, ◌^◌, ◌<◌, ◌≤◌, List, length, get_or, set, sym, refl, ap, ◌∙◌, subst, ⊎_elim, not-suc-le-zero, arith, length-set, get_or-set_other, get_or-set_same}
 use lib.Bits.{bit_or}
 use lib.Ieee.{Float, nan, binary64, of_bits}

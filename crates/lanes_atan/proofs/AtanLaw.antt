@@ -1,4 +1,4 @@
--- States: `atan-lane`: atan by lanes is `atan`, of a NaN too; `atan-parts`: its last step. Assumes nothing.
+-- States: `atan-lane`: atan by lanes is `atan`, of a NaN too; `atan_parts`: its last step. Assumes nothing.
 use mathlib.Core.Path.{◌≡◌, refl, ◌∙◌}
 use lib.Ieee.{Float, nan, inf, fin, of_bits, neg, sub, mul, div, lt, le, is_nan}
 use Rattle.doubles.specs.Rounded.{◌⊕◌, ◌⊗◌}

@@ -1,4 +1,4 @@
--- States: `atan2-lane`: atan2 by lanes is `atan2`, for numbers that are not zero and whose quotient is a number; `atan2-parts`: its last step; `reduced-within`, `reduced-is`: the
+-- States: `atan2-lane`: atan2 by lanes is `atan2`, for numbers that are not zero and whose quotient is a number; `atan2_parts`: its last step; `reduced-within`, `reduced-is`: the
 -- steps of a reduction; `atan-is`: atan by lanes of a number. Assumes nothing.
 use mathlib.Core.Path.{◌≡◌, refl, sym, ap, ap₂, ◌∙◌, subst}
 use Prim.Native.Nat.{ℕ, zero, suc, ◌+◌, ◌*◌, ◌<◌, zero-le}

@@ -1,4 +1,4 @@
--- States: `ln-lane`: ln by lanes is `ln`, for a normal number above zero; `ln-parts`: its last step; `pattern_number`: what the pattern is taken of is no NaN. Assumes nothing.
+-- States: `ln-lane`: ln by lanes is `ln`, for a normal number above zero; `ln_parts`: its last step; `pattern_number`: what the pattern is taken of is no NaN. Assumes nothing.
 use mathlib.Core.Path.{◌≡◌, sym, ap, ◌∙◌, subst}
 use mathlib.Core.Bool.{Bool, true, false, not, cond, false≢true}
 use Prim.Native.Nat.{ℕ, ◌*◌, ◌^◌, ◌≤◌, ◌<◌}

@@ -1,4 +1,4 @@
--- All lanes make their rounds together, and a lane whose test fails stays as it is. States: `none_made`, `one-made`, `all-still`, `all_made`: how the loop begins, goes on, ends
+-- All lanes make their rounds together, and a lane whose test fails stays as it is. States: `none_made`, `one_made`, `all_still`, `all_made`: how the loop begins, goes on, ends
 -- where no lane's test holds, and ends after 64 rounds; `all-numbers`: the lanes that it leaves give R_C. Assumes nothing.
 use mathlib.Core.Path.{◌≡◌, refl, sym, ap, ap₂, ◌∙◌}
 use mathlib.Core.List.{List}

@@ -1,4 +1,4 @@
--- States: `number-value`: where y is above zero and the loop of R_C(x, y) ends within six rounds, `rcNumber` is R_C's value. Assumes nothing.
+-- States: `number-value`: where y is above zero and the loop of R_C(x, y) ends within six rounds, `rc_number` is R_C's value. Assumes nothing.
 use mathlib.Core.Path.{◌≡◌}
 use lib.Dec.{T}
 use lib.Ieee.{Float}

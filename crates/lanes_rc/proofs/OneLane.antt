@@ -1,4 +1,4 @@
--- What becomes of one lane. States: `round-x`, `round-y`, `round-a`, `round-f`: what a round writes; `number_is`: a lane that starts as R_C
+-- What becomes of one lane. States: `round_x`, `round_y`, `round_a`, `round_f`: what a round writes; `number_is`: a lane that starts as R_C
 -- does ends as it. Assumes nothing.
 use mathlib.Core.Path.{◌≡◌, refl, ap, ap₂, ◌∙◌}
 use mathlib.Core.List.{List}

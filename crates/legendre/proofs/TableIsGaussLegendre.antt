@@ -1,4 +1,4 @@
--- States: `table-is-gauss-legendre`: each order of the table, from 1 to 16, is a Gauss-Legendre rule (`IsGaussLegendre`), by one test of the whole table, which antt
+-- States: `table-is-gauss_legendre`: each order of the table, from 1 to 16, is a Gauss-Legendre rule (`IsGaussLegendre`), by one test of the whole table, which antt
 -- computes, and the lemma that turns it into the rule's facts; `denominators`: the fractions that it compares have denominators above 0; `entries-not-nan`: no entry
 -- is a NaN. Assumes nothing.
 use Rattle.std.specs.Prelude.{◌≡◌, Bool, true, false, not, cond, List, [], ◌∷◌, ℕ, ◌+◌, ◌-◌, ◌*◌, ◌%◌, ◌<◌, ◌≤◌, T, eqb, pos, neg_ℤ, length, get_or}

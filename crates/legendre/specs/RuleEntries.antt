@@ -1,7 +1,7 @@
 -- What a caller reads of the rule that `gauss_legendre` gives. Assumes nothing. States:
--- `order-accepted`, `order-refused`: the orders 1 to 16 are accepted, the others refused; `rule-answer`: the call's answer is `ruleOf`;
--- `count-is`: the count is the order; `length-nodes`, `length-weights`: each array has 16 numbers;
--- `node_at`, `weight-at`: below the count they are `node n i` and `weight n i`, of which `table-is-gauss-legendre` speaks.
+-- `order-accepted`, `order-refused`: the orders 1 to 16 are accepted, the others refused; `rule_answer`: the call's answer is `rule_of`;
+-- `count-is`: the count is the order; `length_nodes`, `length_weights`: each array has 16 numbers;
+-- `node_at`, `weight-at`: below the count they are `node n i` and `weight n i`, of which `table-is-gauss_legendre` speaks.
 use Rattle.std.specs.Prelude.{◌≡◌, refl, ◌⊎◌, ℕ, zero, suc, ◌<◌, ◌≤◌, length, get_or, Float}
 use Rattle.std.proofs.Common.{◌∙◌, inl, inr, ⊎_elim, le_of_suc-le-suc, not-suc-le-zero, eq-or-lt_of_le, arith, le-leb, length-set, get_or-set_same, get_or-set_other}
 use Rattle.std.proofs.lemmas.Bool.{lt-leb}

@@ -1,4 +1,4 @@
--- Laws of `count`, `Perm` and `Below`. States: `entry-counts`, `counts-entry`: an entry is what counts at least once; `perm-entry`, `perm-below`: permutations have the same entries.
+-- Laws of `count`, `Perm` and `Below`. States: `entry_counts`, `counts_entry`: an entry is what counts at least once; `perm_entry`, `perm_below`: permutations have the same entries.
 -- Assumes nothing.
 use mathlib.Core.Path.{◌≡◌, refl, sym, ap, subst}
 use mathlib.Core.List.{List, [], ◌∷◌}

@@ -1,4 +1,4 @@
--- Laws of `first`. States: `first-is`: it gives the first number that passes; `first-unique`: there is one such number only. Assumes nothing.
+-- Laws of `first`. States: `first-is`: it gives the first number that passes; `first_unique`: there is one such number only. Assumes nothing.
 use mathlib.Core.Path.{◌≡◌, refl, sym, ap, ◌∙◌}
 use mathlib.Core.Bool.{Bool, true, false, cond}
 use mathlib.Core.Logic.{◌⊎◌, inl, inr, ⊎_elim}

@@ -1,5 +1,5 @@
--- Neighbours in the order list. States: `same-twice`: an edge that stands at two places in a row occurs twice; `differs-once`: one that differs from its neighbours occurs once;
--- `differ-none`: so where all neighbours differ there is no cause 5. Assumes nothing.
+-- Neighbours in the order list. States: `same_twice`: an edge that stands at two places in a row occurs twice; `differs_once`: one that differs from its neighbours occurs once;
+-- `differ_none`: so where all neighbours differ there is no cause 5. Assumes nothing.
 use mathlib.Core.Path.{◌≡◌, refl, sym, ap, ◌∙◌}
 use mathlib.Core.Bool.{true}
 use mathlib.Core.List.{List}

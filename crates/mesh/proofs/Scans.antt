@@ -1,4 +1,4 @@
--- A loop that tries a test at 0, 1, .. and stops at the first that fails (`scan-more`: a turn, `scan-stop`, `scan-end`), and a fold that notes whether all entries of a
+-- A loop that tries a test at 0, 1, .. and stops at the first that fails (`scan_more`: a turn, `scan_stop`, `scan_end`), and a fold that notes whether all entries of a
 -- list pass (`noted_push`: one more entry, `noted_each`). Assumes nothing.
 use mathlib.Core.Path.{◌≡◌, refl, sym, ap, ap₂, subst, ◌∙◌}
 use mathlib.Core.List.{List, [], ◌∷◌, ◌++◌}

@@ -1,4 +1,4 @@
--- States: `causes-in-order`: `meshCause` is the first of the nine causes in document 01's order; and of each cause 1, 2, 12, 3, 4, 7 and 8 where it does not hold, as a plain statement,
+-- States: `causes_in_order`: `mesh_cause` is the first of the nine causes in document 01's order; and of each cause 1, 2, 12, 3, 4, 7 and 8 where it does not hold, as a plain statement,
 -- both ways (`none-malformed` and `malformed-none`, ..). `is_body`, `none_each` and `each_none` serve other laws. Assumes nothing.
 use Rattle.std.specs.Prelude.{◌≡◌, refl, Bool, true, false, ◌&&◌, List, [], ◌∷◌, ℕ, ◌/◌, ◌%◌, ◌≤◌, ◌<◌, length, get_or, Float}
 use Rattle.std.proofs.Math.Path.{ap, ap₂}

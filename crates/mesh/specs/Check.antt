@@ -76,7 +76,7 @@ inverted v f = unless (lt 0·0 (volume v f)) Inverted
 
 -- ---- the causes in document 01's order: 1, 2, 12, 3, 4, 5, 6, 7, 8
 
--- all of them. `meshCause` below is the first of this list that refuses (`causes-in-order` in CauseLaws), and its parts have names for callers that try the causes before them themselves
+-- all of them. `mesh_cause` below is the first of this list that refuses (`causes_in_order` in CauseLaws), and its parts have names for callers that try the causes before them themselves
 abbrev pub mesh_causes : List Float → List ℕ → ℕ → List Cause
 mesh_causes v f n =
     malformed v f

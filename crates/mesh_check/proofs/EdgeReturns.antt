@@ -1,5 +1,5 @@
 -- What `check_edges` owes, return by return. States: `edges-refused`: after a refusal the bytes for the mates are as they were; `edges-accepted`: else they are the mates;
--- `order-fits`: what `put_mates` asks; `no-edge-cause`: where none of 5 to 8 holds, neither 5 nor 6 does. Assumes nothing.
+-- `order_fits`: what `put_mates` asks; `no_edge-cause`: where none of 5 to 8 holds, neither 5 nor 6 does. Assumes nothing.
 use mathlib.Core.Path.{◌≡◌, refl, sym, ap, subst, ◌∙◌}
 use mathlib.Core.List.{List}
 use Prim.Native.Nat.{ℕ}

@@ -1,4 +1,4 @@
--- What work holds after a cause. States: `work-early`: what it was, after the causes 1, 2, 12 (`early-count`), 3 (`early-number`) and 4 (`early-vertex`); `work-order`: the order list
+-- What work holds after a cause. States: `work_early`: what it was, after the causes 1, 2, 12 (`early_count`), 3 (`early_number`) and 4 (`early_vertex`); `work-order`: the order list
 -- first, after 5 to 8 or none. Assumes nothing.
 use mathlib.Core.Path.{◌≡◌, refl, ap}
 use mathlib.Core.Bool.{Bool, true, false, cond}

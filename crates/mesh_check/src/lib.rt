@@ -1,4 +1,4 @@
-// `check_mesh`: is a list of triangles a closed, consistently wound, outward-facing surface? Its definition, `checkMesh`, with the causes of refusal is in mesh/specs/Check; that
+// `check_mesh`: is a list of triangles a closed, consistently wound, outward-facing surface? Its definition, `check_mesh`, with the causes of refusal is in mesh/specs/Check; that
 // they say what document 01 says, in mesh_laws/specs/Laws and EarlyLaws; the parts that try a cause each, in mesh/src and mesh_orders/src.
 #![tactic(auto)]
 

@@ -1,6 +1,6 @@
 -- What the answers 1, 2, 12, 3 and 4 of `check_mesh` mean. States, each both ways, that it refuses so exactly where the statement of `Refused` holds and that of no cause before it:
--- `is-malformed`, `gives-malformed`: 1; `is-too-many`, `gives-too-many`: 2; `is-too-short`, `gives-too-short`: 12, for a work list of n entries; `is-out-of-limits`,
--- `gives-out-of-limits`: 3; `is-no-such-vertex`, `gives-no-such-vertex`: 4 with the face k. Assumes nothing.
+-- `is-malformed`, `gives_malformed`: 1; `is-too_many`, `gives_too_many`: 2; `is-too_short`, `gives_too_short`: 12, for a work list of n entries; `is-out_of_limits`,
+-- `gives_out_of_limits`: 3; `is-no_such_vertex`, `gives_no_such_vertex`: 4 with the face k. Assumes nothing.
 use Rattle.std.specs.Prelude.{◌≡◌, Bool, true, false, ◌&&◌, List, ◌⊎◌, ℕ, ◌+◌, ◌*◌, ◌/◌, ◌%◌, ◌≤◌, ◌<◌, get_or, Float}
 use Rattle.std.proofs.Math.Path.{refl, sym, ap}
 use Rattle.std.proofs.Common.{◌∙◌}

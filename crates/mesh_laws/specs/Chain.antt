@@ -1,4 +1,4 @@
--- A step towards `Laws`: the causes of `check_mesh` read backwards. States: `sound-order`: of a sound mesh the causes 5 to 8 decide; `none-sound`, `late-sound`: no cause at all, or
+-- A step towards `Laws`: the causes of `check_mesh` read backwards. States: `sound-order`: of a sound mesh the causes 5 to 8 decide; `none-sound`, `late_sound`: no cause at all, or
 -- one of 5 to 8, is the answer of a sound mesh only. Assumes nothing.
 use Rattle.std.specs.Prelude.{◌≡◌, List, ℕ, ◌≤◌, Float}
 use Rattle.std.proofs.Common.{arith}

@@ -1,4 +1,4 @@
--- Closed, by edge uses and by pairs of vertices. States: `closed-pairs`, `pairs-closed`: the two say the same. Assumes nothing.
+-- Closed, by edge uses and by pairs of vertices. States: `closed_pairs`, `pairs_closed`: the two say the same. Assumes nothing.
 use Rattle.std.specs.Prelude.{◌≡◌, refl, List, ℕ, ◌≤◌, ◌<◌, length}
 use Rattle.std.proofs.Common.{sym, ap₂, ◌∙◌, ⊎_elim, le_of_eq, arith}
 use Rattle.lists.proofs.Numbers.{below?}

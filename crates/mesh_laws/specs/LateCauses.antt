@@ -1,5 +1,5 @@
 -- A step towards `Laws`: the causes 5 to 8 as plain statements. States: `none-order`, `order-none`: none of them holds exactly where the mesh is `Outward`; and of each cause where
--- it does not hold, and which edge or face it names, both ways (`none-flipped` and `flipped-none`, `flipped-smallest` and `smallest-flipped`, ..). Assumes nothing.
+-- it does not hold, and which edge or face it names, both ways (`none_flipped` and `flipped_none`, `flipped_smallest` and `smallest_flipped`, ..). Assumes nothing.
 use Rattle.std.proofs.Math.Path.{◌≡◌, refl, ap, subst, subst₂}
 use Rattle.std.specs.Prelude.{Bool, List, ℕ, ◌≤◌, ◌<◌, length, leb, Float}
 use Rattle.std.proofs.Math.Bool.{true, false, not}

@@ -1,5 +1,5 @@
 -- A step towards `Laws`. States: `smallest`, `from-smallest`: a scan of the order list for the first edge that fails a test finds the smallest edge that does, both ways; `all_pass`,
--- `pass_all`: it finds none exactly where every edge passes; `first-fail`: what a scan for the first test that fails finds. Assumes nothing.
+-- `pass_all`: it finds none exactly where every edge passes; `first_fail`: what a scan for the first test that fails finds. Assumes nothing.
 use Rattle.std.proofs.Math.Path.{◌≡◌, refl}
 use Rattle.std.proofs.Common.{sym, ap, ap₂, ◌∙◌, inl, inr, ⊎_elim, arith}
 use Rattle.std.specs.Prelude.{Bool, true, false, List, length, get_or}

@@ -1,5 +1,5 @@
--- Laws of edges. States: `number-apart`, `number-order`, `order-number`: the number of an edge tells it from every other and is ordered as (from, to); `use-key-apart`, `key-order`,
--- `order-key`: so does the key with (from, to, use); `occurs-some`, `some-use`: an edge that occurs is the edge of a use; `edge-one`: it occurs once if no other use has it.
+-- Laws of edges. States: `number_apart`, `number-order`, `order-number`: the number of an edge tells it from every other and is ordered as (from, to); `use_key_apart`, `key-order`,
+-- `order-key`: so does the key with (from, to, use); `occurs_some`, `some_use`: an edge that occurs is the edge of a use; `edge-one`: it occurs once if no other use has it.
 -- Assumes nothing.
 use Rattle.std.specs.Prelude.{◌≡◌, Bool, true, false, ◌&&◌, List, ◌⊎◌, ℕ, ◌≤◌, ◌<◌, length, eqb}
 use Rattle.std.proofs.Math.Path.{refl}

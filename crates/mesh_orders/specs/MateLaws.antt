@@ -1,5 +1,5 @@
 -- Laws of mates. States: `mate-occurs`, `occurs-mate`: there is a mate exactly where the reverse occurs; `mate-reverse`: it is the reverse; `mate-only`: where the reverse occurs once,
--- no other use is; `search-found`, `search-none`: a binary search of the order list finds it. Assumes nothing.
+-- no other use is; `search_found`, `search_none`: a binary search of the order list finds it. Assumes nothing.
 use Rattle.std.specs.Prelude.{◌≡◌, true, List, ℕ, ◌≤◌, ◌<◌}
 use Rattle.std.proofs.Math.Path.{sym, ap}
 use Rattle.std.proofs.Common.{◌∙◌, arith}

@@ -1,6 +1,6 @@
 -- What the calls on sheets say by the number that they return. Assumes nothing. States:
--- `writes-lent`: what `write_sheet` promises, of the number returned and the size written;
--- `checks-lent`: what `check_sheet` promises, of the number returned and the kind and S found.
+-- `writes_lent`: what `write_sheet` promises, of the number returned and the size written;
+-- `checks_lent`: what `check_sheet` promises, of the number returned and the kind and S found.
 use mathlib.Core.Path.{◌≡◌, refl, sym, ap}
 use mathlib.Core.List.{List}
 use Prim.Native.Nat.{ℕ, ◌≤◌}

@@ -1,5 +1,5 @@
 -- The field of a checked mesh by its centroid and radius, and which refusals the polyhedron's answers have. Assumes nothing. States:
--- `at_from`: the field is that of `polyhedronFrom` with the mesh's centroid and radius;
+-- `at_from`: the field is that of `polyhedron_from` with the mesh's centroid and radius;
 -- `from-refused`, `at-refused`: the field at the station of number i is refused by 11 with the station i alone;
 -- `cause-refused`: the causes before the field are 1 to 8 and 12 (`InputRefusal`);
 -- `polyhedron-refused`: the public call is refused by 1 to 8, by 12, or by 11 with the station 0, and by no other number.

@@ -1,6 +1,6 @@
 -- A station's number shows in a refusal alone, never in the field. Assumes nothing. States:
--- `polyhedronAt-value`: the field under one number is the field under every other;
--- `polyhedronAt-too-many`: what is refused under one number is refused under every other, by 11 with that number.
+-- `polyhedron_at-value`: the field under one number is the field under every other;
+-- `polyhedron_at-too_many`: what is refused under one number is refused under every other, by 11 with that number.
 use Rattle.std.specs.Prelude.{◌≡◌, refl, Bool, true, false, cond, List, ℕ, leb, length, Float}
 use Rattle.std.proofs.Common.{sym, ap, ◌∙◌}
 use Rattle.refusals.specs.Answer.{Answer, value, refused}

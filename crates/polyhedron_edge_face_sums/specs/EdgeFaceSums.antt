@@ -69,7 +69,7 @@ field_of s = record {
 }
 
 -- the field at p, which has the number i among the stations; refused by 11 where more different edges than the limit give a logarithm that is not finite
--- (`edges-different` in SumsLaws)
+-- (`edges_different` in SumsLaws)
 unfoldable pub edge_face_sums : ℕ → Vector → List Float → List ℕ → Answer Newtonian
 edge_face_sums i p v f =
     let s = sums_of p v f in

@@ -1,6 +1,6 @@
 -- Which edges the sums keep. Assumes nothing. States:
--- `edges-different`: no two of them have one key, so that `edgeLimit` is a limit of different edges;
--- `kept-not-finite`, `not-finite-kept`: they are those of the sides that give a logarithm that is not finite, and no others.
+-- `edges_different`: no two of them have one key, so that `edge_limit` is a limit of different edges;
+-- `kept-not_finite`, `not_finite_kept`: they are those of the sides that give a logarithm that is not finite, and no others.
 use Rattle.std.specs.Prelude.{Bool, cond, List, ◌⊎◌, ◌≡◌, Float}
 use Rattle.std.proofs.Math.Bool.{false, true}
 use Rattle.std.proofs.Math.Logic.{inl, inr, ⊎_elim}

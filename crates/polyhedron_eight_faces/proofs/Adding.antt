@@ -1,4 +1,4 @@
--- The lists that describe eight faces, with what a station sees of them, add what the faces add. States: `side-dyad`: the dyad of side i; `all-clear`: the sides' logarithms are
+-- The lists that describe eight faces, with what a station sees of them, add what the faces add. States: `side_dyad`: the dyad of side i; `all_clear`: the sides' logarithms are
 -- finite; `face-is`: what face k adds. Assumes nothing.
 use mathlib.Core.Path.{◌≡◌, sym, ap, ◌∙◌}
 use Prim.Native.Nat.{ℕ, ◌+◌, ◌-◌, ◌%◌, ◌<◌}

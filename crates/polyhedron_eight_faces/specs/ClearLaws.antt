@@ -1,6 +1,6 @@
 -- Faces whose sides' logarithms are finite. Assumes nothing. States:
--- `clear-adds`: such a face adds `addWhole` to the field of the sums, and no edge;
--- `clear-fold`: so do n such faces.
+-- `clear_adds`: such a face adds `add_whole` to the field of the sums, and no edge;
+-- `clear_fold`: so do n such faces.
 use Rattle.std.specs.Prelude.{◌≡◌, refl, ℕ, zero, suc, ◌<◌}
 use Rattle.std.proofs.Common.{ap, ◌∙◌, arith}
 use Rattle.newtonian.specs.Fold.{Fold}

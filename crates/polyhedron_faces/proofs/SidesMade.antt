@@ -1,5 +1,5 @@
--- The sides of eight faces, of their normals, squares and roots. States: `vector-at`: vector k of several; `units`: vectors over the roots of their squares; `sides-made`: the sides;
--- `edge-is`, `side-is`: a side between corners of known places. Assumes nothing.
+-- The sides of eight faces, of their normals, squares and roots. States: `vector-at`: vector k of several; `units`: vectors over the roots of their squares; `sides_made`: the sides;
+-- `edge-is`, `side_is`: a side between corners of known places. Assumes nothing.
 use mathlib.Core.Path.{◌≡◌, sym, ap, ap₂, ◌∙◌}
 use mathlib.Core.List.{List}
 use Prim.Native.Nat.{ℕ, ◌+◌, ◌%◌, ◌<◌}

@@ -1,5 +1,5 @@
--- The sums of far stations. States: `first-station`, `one-station`, `all-stations`: how a loop over the stations begins, goes on and ends; `no-face`, `one-face`, `more-faces`: how
--- a loop over the faces begins and goes on, by one and by several; `same-sums`: two functions that are the same; `face-added`: the points over a face give what the
+-- The sums of far stations. States: `first-station`, `one-station`, `all-stations`: how a loop over the stations begins, goes on and ends; `no_face`, `one-face`, `more-faces`: how
+-- a loop over the faces begins and goes on, by one and by several; `same_sums`: two functions that are the same; `face_added`: the points over a face give what the
 -- definition says of the face. Assumes nothing.
 use mathlib.Core.Path.{◌≡◌, refl, sym, ap, ◌∙◌}
 use mathlib.Core.Bool.{Bool}

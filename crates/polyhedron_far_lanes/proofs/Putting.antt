@@ -1,4 +1,4 @@
--- One station's lanes. States: `put-here`, `put-there`: what a put field changes, and what not; `no_fields`, `one_field`, `all-fields`: how a loop over the stations begins,
+-- One station's lanes. States: `put-here`, `put_there`: what a put field changes, and what not; `no_fields`, `one_field`, `all-fields`: how a loop over the stations begins,
 -- goes on and ends; `zero-fields`. Assumes nothing.
 use mathlib.Core.Path.{◌≡◌, refl, ◌∙◌}
 use mathlib.Core.List.{List}

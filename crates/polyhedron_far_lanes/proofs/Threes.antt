@@ -1,5 +1,5 @@
--- Three points at a time. States: `no-squares`, `one-square`: how a loop over squared distances begins and goes on; `rows-kept`: what a later loop leaves alone; `three-added`: three points, one after the other; `no-three`,
--- `three-more`, `all-points`: how the fold over all points begins, goes on by three and ends. Assumes nothing.
+-- Three points at a time. States: `no_squares`, `one-square`: how a loop over squared distances begins and goes on; `rows-kept`: what a later loop leaves alone; `three_added`: three points, one after the other; `no_three`,
+-- `three_more`, `all-points`: how the fold over all points begins, goes on by three and ends. Assumes nothing.
 use mathlib.Core.Path.{◌≡◌, refl, sym, ap, ap₂, ◌∙◌}
 use mathlib.Core.List.{List}
 use mathlib.Core.Logic.{⊎_elim}

@@ -1,4 +1,4 @@
--- The points over a face. States: `face-added`: their field, added to the sums, gives what the definition says of the face. Assumes nothing.
+-- The points over a face. States: `face_added`: their field, added to the sums, gives what the definition says of the face. Assumes nothing.
 use mathlib.Core.Path.{◌≡◌, ap, ◌∙◌}
 use mathlib.Core.List.{List}
 use Prim.Native.Nat.{ℕ}

@@ -1,4 +1,4 @@
--- The points of a tetrahedron. States: `no-points`, `one-point`: how a loop over them begins and goes on; `field_of`: the field of a tetrahedron is one fold over its points;
+-- The points of a tetrahedron. States: `no_points`, `one-point`: how a loop over them begins and goes on; `field_of`: the field of a tetrahedron is one fold over its points;
 -- `points-field`: from arrays that hold them. Assumes nothing.
 use mathlib.Core.Path.{◌≡◌, sym, ◌∙◌}
 use mathlib.Core.List.{List}

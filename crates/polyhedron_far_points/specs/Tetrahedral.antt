@@ -1,4 +1,4 @@
--- The 216 points of a tetrahedron and their weights, in the order in which `tetrahedronField` adds them: point 36 i + 6 j + t is the one at node i along u, node j along v
+-- The 216 points of a tetrahedron and their weights, in the order in which `tetrahedron_field` adds them: point 36 i + 6 j + t is the one at node i along u, node j along v
 -- and node t along t. Definitions only.
 use Rattle.std.specs.Prelude.{◌≡◌, List, ℕ, ◌/◌, ◌%◌, ◌<◌, Float, length}
 use Rattle.doubles.specs.Rounded.{◌⊗◌}

@@ -1,4 +1,4 @@
--- What is computed of eight faces side by side is what `triangleOf` says of them. States: `describes`. Assumes nothing.
+-- What is computed of eight faces side by side is what `triangle_of` says of them. States: `describes`. Assumes nothing.
 use mathlib.Core.Path.{◌≡◌, sym, ap, ap₂, ◌∙◌}
 use mathlib.Core.List.{List}
 use Prim.Native.Nat.{ℕ, ◌+◌, ◌/◌, ◌%◌, ◌<◌}

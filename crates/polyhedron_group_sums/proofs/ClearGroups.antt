@@ -1,4 +1,4 @@
--- A group whose faces are all clear. States: `carries-clear`: what is added to the field by lanes carries the sums with these faces. Assumes nothing.
+-- A group whose faces are all clear. States: `carries_clear`: what is added to the field by lanes carries the sums with these faces. Assumes nothing.
 use mathlib.Core.List.{List}
 use mathlib.Core.Path.{◌≡◌, sym, ap, ◌∙◌}
 use Prim.Native.Nat.{ℕ, ◌+◌, ◌≤◌, ◌<◌}

@@ -1,7 +1,7 @@
--- The edges that `addDyad` keeps are different. Assumes nothing. States:
+-- The edges that `add_dyad` keeps are different. Assumes nothing. States:
 -- `add-has`: after a dyad for the edge with the key k, that key is there; `add-itself`: once, if the edges were different;
--- `add-other`: every other key is there as often as before;
--- `add-different`: so edges that are different stay so.
+-- `add_other`: every other key is there as often as before;
+-- `add_different`: so edges that are different stay so.
 use Rattle.std.specs.Prelude.{Bool, cond, false, true, List, [], ◌∷◌, ◌≡◌, refl, ◌+◌, ◌≤◌, ℕ, eqb}
 use Rattle.std.proofs.Common.{⊎_elim, ap, sym, arith, eqb-true}
 use Rattle.std.proofs.lemmas.Bool.{eqb-false}

@@ -1,6 +1,6 @@
 -- Laws of an edge's key. Assumes nothing. States:
--- `edgeKey-either`: an edge has one key in both directions;
--- `edgeKey-apart`: two edges whose vertex numbers are below 2³² have one key only if they are one edge, in either direction.
+-- `edge_key_either`: an edge has one key in both directions;
+-- `edge_key_apart`: two edges whose vertex numbers are below 2³² have one key only if they are one edge, in either direction.
 use Rattle.std.specs.Prelude.{◌⊎◌, ◌≡◌, ◌<◌, ◌≤◌, ℕ}
 use Rattle.std.proofs.Common.{inl, inr, ⊎_elim, ◌∙◌, sym, arith, le-ltb, lt-ltb}
 use Rattle.lists.proofs.Numbers.{below?}

@@ -19,7 +19,7 @@ abbrev pub seen_at : Vector → List Float → List Float → List Float → ℕ
 seen_at p cx cy cz k = seen p (vector_at cx cy cz k)
 
 -- of the faces with the corners in cx, cy, cz and the sides' lengths in e, the station p sees the offsets x, y, z of the corners, the sides' logarithms L, which are finite, and the solid
--- angles ω. The station lies in no face's plane, so that no normal n counts in `solidAngle`.
+-- angles ω. The station lies in no face's plane, so that no normal n counts in `solid_angle`.
 pub record Sight (p : Vector) (cx cy cz e x y z L ω : List Float) : Type 0 where
   pub offset : (k : ℕ) → k < 24 → vector_at x y z k ≡ (seen_at p cx cy cz k).r
   pub log : (k : ℕ) → k < 24 → lane L k ≡ logarithm (seen_at p cx cy cz k) (seen_at p cx cy cz (next k)) (lane e k)

@@ -53,7 +53,7 @@ numbers_within_limits p lo hi = vector_within_limits p && (vector_within_limits 
 abbrev pub min_side : Float
 min_side = 10⁻⁶
 
--- the side from lo to hi, as rounded, is not below `minSide`
+-- the side from lo to hi, as rounded, is not below `min_side`
 unfoldable pub side_within_limits : Float → Float → Bool
 side_within_limits lo hi = le min_side (hi ⊖ lo)
 

@@ -1,5 +1,5 @@
 -- Which refusals the prism's answers have. Assumes nothing. States:
--- `prismAt-refused`: the field at the station of number i is refused by 10 with the station i alone;
+-- `prism_at-refused`: the field at the station of number i is refused by 10 with the station i alone;
 -- `prism-refused`: the public call is refused by 3, by 9, or by 10 with the station 0, and by no other number.
 use Rattle.std.specs.Prelude.{◌≡◌, Bool, true, false, ◌⊎◌, ℕ, zero, suc}
 use Rattle.std.proofs.Common.{inl, inr}

@@ -1,6 +1,6 @@
 -- A station's number shows in a refusal alone, never in the field. Assumes nothing. States:
--- `prismAt-value`: the field under one number is the field under every other;
--- `prismAt-too-deep`: what is refused under one number is refused under every other, by 10 with that number.
+-- `prism_at-value`: the field under one number is the field under every other;
+-- `prism_at_too_deep`: what is refused under one number is refused under every other, by 10 with that number.
 use Rattle.std.specs.Prelude.{◌≡◌, refl, ℕ, zero, suc}
 use Rattle.std.proofs.Math.Path.{sym, ap}
 use Rattle.std.proofs.Common.{ap₂, ◌∙◌}

@@ -1,5 +1,5 @@
--- States: `logarithm-from` and `angle-from`: a lane's logarithm and angle are the corner's; `corner-is`: what stands at k, k + 8 and k + 16 is corner k; `sums-are`: so
--- the sum over the lanes is `cornerSums`. Assumes nothing.
+-- States: `logarithm-from` and `angle-from`: a lane's logarithm and angle are the corner's; `corner-is`: what stands at k, k + 8 and k + 16 is corner k; `sums_are`: so
+-- the sum over the lanes is `corner_sums`. Assumes nothing.
 use mathlib.Core.Path.{◌≡◌, refl, ap, ◌∙◌}
 use mathlib.Core.Bool.{Bool, true, false, cond}
 use mathlib.Core.List.{List}

@@ -1,5 +1,5 @@
 -- The corners of a prism side by side: of corner k, what belongs to the axes x, y and z stands in a list of 24 at k, k + 8 and k + 16. Definitions only; the proofs
--- show that the terms summed are those of `cornerSums`.
+-- show that the terms summed are those of `corner_sums`.
 use Rattle.std.specs.Prelude.{◌≡◌, Bool, cond, List, [], ◌∷◌, ℕ, ◌+◌, Float}
 use Rattle.std.specs.Float.Ieee.{le}
 use Rattle.doubles.specs.Rounded.{◌⊕◌, ◌⊖◌, ◌⊗◌, ◌⊘◌}
@@ -48,7 +48,7 @@ thrice d =
 abbrev pub distance_at : List Float → List Float → List Float → ℕ → Float
 distance_at x y z k = Root (lane x k ⊗ lane x k ⊕ lane y k ⊗ lane y k ⊕ lane z k ⊗ lane z k)
 
--- what `cornerLogarithm` takes the logarithm of
+-- what `corner_logarithm` takes the logarithm of
 unfoldable pub argument : Float → Float → Float → Float → Float → Float → Float
 argument p hi x y z r = cond (le hi p) (r ⊖ x) (cond (le 0·0 x) (x ⊕ r) ((y ⊗ y ⊕ z ⊗ z) ⊘ (r ⊖ x)))
 
@@ -58,7 +58,7 @@ argument_at c k = argument (lane c.at k) (lane c.top k) (lane c.x k) (lane c.y k
 abbrev pub logarithm_at : Corners → ℕ → Float
 logarithm_at c k = corner_logarithm (lane c.at k) (lane c.top k) (lane c.x k) (lane c.y k) (lane c.z k) (lane c.r k)
 
--- what `cornerAngle` takes the arctangent of
+-- what `corner_angle` takes the arctangent of
 abbrev pub quotient_at : Corners → ℕ → Float
 quotient_at c k = lane c.y k ⊗ lane c.z k ⊘ (lane c.x k ⊗ lane c.r k)
 

@@ -1,5 +1,5 @@
 -- The field of a rectangular prism by a Gauss-Legendre cubature of 1/r over it, with the roundings in the order of the Rust: at unit Gρ, the sum of the fields of
--- the points (`addPoint` of newtonian). p is the station; lo and hi are the corners min and max. Definitions only.
+-- the points (`add_point` of newtonian). p is the station; lo and hi are the corners min and max. Definitions only.
 use Rattle.std.specs.Prelude.{ℕ, Float}
 use Rattle.doubles.specs.Rounded.{◌⊕◌, ◌⊖◌, ◌⊗◌}
 use Rattle.doubles.specs.Constants.{0·5}

@@ -39,7 +39,7 @@ distance p lo hi =
 
 -- ---- the orders of the cubature
 
--- ⌈x⌉, but at least 1, and `maxOrder` + 1 for all that is above `maxOrder`: one more than how many of 1, 2, .., `maxOrder` lie below x (`ceiling-kept` in ChoiceLaws). A NaN gives
+-- ⌈x⌉, but at least 1, and `max_order` + 1 for all that is above `max_order`: one more than how many of 1, 2, .., `max_order` lie below x (`ceiling-kept` in ChoiceLaws). A NaN gives
 -- 1, as the Rust's `max(1.0)` passes over it.
 abbrev pub count_below : Float → ℕ → ℕ → ℕ
 count_below x i n = cond (lt (of_int binary64 (pos (i + 1))) x) (n + 1) n
@@ -68,7 +68,7 @@ affordable l m n = leb l max_order && (leb m max_order && (leb n max_order && le
 unfoldable pub last_longest : Vector → Axis
 last_longest h = cond (le h.x h.y) (cond (le h.y h.z) Z Y) (cond (le h.x h.z) Z X)
 
--- the axis of the largest half-width, by a rule for equal ones (`longest-chosen` in ChoiceLaws)
+-- the axis of the largest half-width, by a rule for equal ones (`longest_chosen` in ChoiceLaws)
 unfoldable pub longest : AxisRule → Vector → Axis
 longest LastOfEquals h = last_longest h
 

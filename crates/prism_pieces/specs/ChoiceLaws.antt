@@ -1,6 +1,6 @@
 -- What the orders and the longest axis of the choice are. States:
--- `ceiling-kept`, `kept-ceiling`: for a number x `ceiling x` is ⌈x⌉ kept within 1 and `maxOrder` + 1 (`KeptCeiling`), and nothing else is; `ceiling-of-nan`: of a NaN it is 1;
--- `longest-chosen`, `chosen-longest`: for half-widths that are numbers `longest rule h` is an axis of the largest, and of equal ones that of the rule (`Chosen`), and no other axis is.
+-- `ceiling-kept`, `kept-ceiling`: for a number x `ceiling x` is ⌈x⌉ kept within 1 and `max_order` + 1 (`KeptCeiling`), and nothing else is; `ceiling_of_nan`: of a NaN it is 1;
+-- `longest_chosen`, `chosen_longest`: for half-widths that are numbers `longest rule h` is an axis of the largest, and of equal ones that of the rule (`Chosen`), and no other axis is.
 -- Assumes nothing.
 use Rattle.std.specs.Prelude.{◌≡◌, Bool, true, false, not, cond, ltb, pos, Float}
 use Rattle.std.proofs.Math.Path.{refl}
@@ -25,7 +25,7 @@ use Rattle.doubles.proofs.Comparisons.{less?, lt_not_le, lt-le, number-le_self, 
 
 -- ---- what is stated
 
--- n is ⌈x⌉, but at least 1 and at most `maxOrder` + 1: x ≤ n, unless n is the greatest; n − 1 < x, unless n is the least
+-- n is ⌈x⌉, but at least 1 and at most `max_order` + 1: x ≤ n, unless n is the greatest; n − 1 < x, unless n is the least
 pub record KeptCeiling (x : Float) (n : ℕ) : Type 0 where
   pub least : 1 ≤ n
   pub greatest : n ≤ max_order + 1

@@ -1,7 +1,7 @@
 -- A step towards `ProfileLaws`: the answers of `profile` and the plain statements of Promises, each direction by itself. States:
 -- `none_each`, `each_none`: no cause, and a value of the single call at each station;
--- `refused-at`, `at-refuses`: 11 with the station i, and the single call refused there first;
--- `of-station`: the stations' cause is 11 with one of their numbers. Assumes nothing.
+-- `refused-at`, `at_refuses`: 11 with the station i, and the single call refused there first;
+-- `of_station`: the stations' cause is 11 with one of their numbers. Assumes nothing.
 use Rattle.std.specs.Prelude.{◌≡◌, List, ℕ, ◌<◌, Float}
 use Rattle.std.proofs.Common.{ap, ◌∙◌, arith}
 use Rattle.std.proofs.Math.Path.{subst}

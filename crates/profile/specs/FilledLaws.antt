@@ -1,7 +1,7 @@
 -- A step towards `ProfileLaws`: how many records are filled, and the causes and the list of fields by the parts that the code tries one after the other. States:
--- `refused-input`, `past-input`: a cause before any field is the answer, and where there is none, the stations' cause is;
--- `fields-as-they-were`: after one of 1 to 8 and 12 the list of fields is as it was;
--- `fields-of-stations`: where there is none of them, it is the list of the stations' records up to the first that is refused, as profile_records defines it;
+-- `refused-input`, `past_input`: a cause before any field is the answer, and where there is none, the stations' cause is;
+-- `fields_as_they_were`: after one of 1 to 8 and 12 the list of fields is as it was;
+-- `fields_of_stations`: where there is none of them, it is the list of the stations' records up to the first that is refused, as profile_records defines it;
 -- `done`: so a call over the stations gives the profile's answer;
 -- `is-filled`: the records that are filled are those of stations that all have values, of a mesh of which no such cause holds. Assumes nothing.
 use Rattle.std.specs.Prelude.{◌≡◌, Bool, cond, List, ◌++◌, ℕ, ◌*◌, ◌≤◌, ◌<◌, Float}

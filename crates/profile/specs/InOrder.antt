@@ -1,8 +1,8 @@
 -- A step towards `ProfileLaws`: causes in a row. States:
--- `six-in-order`: six causes by the parts of `profileCause`, or one after the other;
--- `one-in-order`: the causes of a profile of one station by their parts, and those of the single call;
--- `past-causes`: a value comes after all causes;
--- `three-numbers`: 3 for a list of one station's coordinates, and for the station. Assumes nothing.
+-- `six_in_order`: six causes by the parts of `profile_cause`, or one after the other;
+-- `one_in_order`: the causes of a profile of one station by their parts, and those of the single call;
+-- `past_causes`: a value comes after all causes;
+-- `three_numbers`: 3 for a list of one station's coordinates, and for the station. Assumes nothing.
 use Rattle.std.specs.Prelude.{◌≡◌, refl, Bool, true, false, ◌&&◌, ℕ}
 use Rattle.std.proofs.Common.{arith}
 use Rattle.refusals.specs.Answer.{Answer, value, or_answer}

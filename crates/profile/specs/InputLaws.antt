@@ -1,7 +1,7 @@
 -- A step towards `ProfileLaws`: the causes 1 to 8 and 12, which come before any field. States:
 -- `none-given`: what 1, 2, 12 and 3 leave; `none-input`, `input_none`: none of all these holds exactly where each is denied by itself;
 -- `only-input`: they refuse by 1 to 8 and 12 alone;
--- `single-call`: where none holds, the single call at a station is the field of the checked mesh. Assumes nothing.
+-- `single_call`: where none holds, the single call at a station is the field of the checked mesh. Assumes nothing.
 use Rattle.std.specs.Prelude.{◌≡◌, refl, true, List, ℕ, ◌+◌, ◌*◌, ◌%◌, ◌≤◌, ◌<◌, eqb, leb, Float, length}
 use Rattle.std.proofs.Math.Path.{ap}
 use Rattle.std.proofs.Common.{inl, inr, arith}

@@ -1,6 +1,6 @@
 -- What `profile` answers: the fields of a closed polyhedron at a list of stations, one record of thirteen numbers for each, or document 01's refusals. `v` is the vertex list, `f` the
 -- face list and `st` the list of stations, three coordinates to a station; `w` and `o` are the lengths of work and fields. Each cause of refusal carries its number in document 01.
--- What work holds afterwards is `workAfter` of the mesh. Definitions only.
+-- What work holds afterwards is `work_after` of the mesh. Definitions only.
 use Rattle.std.specs.Prelude.{cond, List, [], ◌∷◌, ◌++◌, ℕ, ◌*◌, ◌/◌, ◌%◌, eqb, leb, Float, length, drop}
 use Rattle.refusals.specs.Answer.{Answer}
 use Rattle.refusals.specs.Causes.{or_else, unless}
@@ -55,7 +55,7 @@ stations_cause v f st = first_cause (field_at v f st) (station_count st)
 
 -- ---- the causes in document 01's order: 1, 2, 12, 3, 4 to 8, and by station 11
 
--- all of them. `profileCause` below is the first of this list that refuses (`causes-in-order` in ProfileLaws)
+-- all of them. `profile_cause` below is the first of this list that refuses (`causes_in_order` in ProfileLaws)
 abbrev pub profile_causes : List Float → List ℕ → List Float → ℕ → ℕ → List Cause
 profile_causes v f st w o =
     malformed v f st
@@ -81,7 +81,7 @@ profile_cause v f st w o = or_else (input_cause v f st w o) (stations_cause v f 
 -- ---- the list of fields
 
 -- how many records are filled, of s stations: all after no refusal, i after 11 at station i, 0 after every other. Where the stations are reached, that is how many come before the first
--- that is refused (`filled-agrees` in StationLaws)
+-- that is refused (`filled_agrees` in StationLaws)
 unfoldable pub filled : Cause → ℕ → ℕ
 filled None s = s
 filled (Refused r) s = cond (eqb (number_of r) 11) (place_of r) 0

@@ -1,14 +1,14 @@
 -- What the answers of `profile` mean, in the words of order 1. Assumes nothing. States:
--- `records-are-calls`: "record by record it equals the single call": each record that is filled is what `polyhedron` answers at its station;
--- `records-untouched`: the entries past the filled records are as they were;
--- `fields-untouched`: after each refusal but 11, all are;
+-- `records_are_calls`: "record by record it equals the single call": each record that is filled is what `polyhedron` answers at its station;
+-- `records_untouched`: the entries past the filled records are as they were;
+-- `fields_untouched`: after each refusal but 11, all are;
 -- `refused-exactly`: "if a station is refused .. its number comes back": the cause is 11 with i exactly where no earlier cause holds, `polyhedron` refuses station i by 11 and has a
--- value at each station before; `earlier-records`: the records of the stations before i, and no others, are then filled;
--- `no-cause-exactly`: there is no cause exactly where each cause before the fields is denied by itself and `polyhedron` has a value at each station; `all-records`: all are then filled;
--- `one-station`: a profile of one station, with room for 13 numbers, is refused exactly as the single call; `one-record`: else its record is the single call's field, and what follows
+-- value at each station before; `earlier_records`: the records of the stations before i, and no others, are then filled;
+-- `no_cause-exactly`: there is no cause exactly where each cause before the fields is denied by itself and `polyhedron` has a value at each station; `all-records`: all are then filled;
+-- `one-station`: a profile of one station, with room for 13 numbers, is refused exactly as the single call; `one_record`: else its record is the single call's field, and what follows
 -- it is as it was; `one-refused`: where it is refused, all is as it was;
--- `only-11`: "which here only 11 does": `profile` is refused by 1 to 8 and 12, or by 11 with a station below S, and by no other number;
--- `input-exactly`: none of 1 to 8 and 12 holds exactly where each is denied by itself; `causes-in-order`: the first of the causes in document 01's order decides.
+-- `only_11`: "which here only 11 does": `profile` is refused by 1 to 8 and 12, or by 11 with a station below S, and by no other number;
+-- `input-exactly`: none of 1 to 8 and 12 holds exactly where each is denied by itself; `causes_in_order`: the first of the causes in document 01's order decides.
 use Rattle.std.specs.Prelude.{◌≡◌, refl, List, ◌++◌, ◌↔◌, ◌⊎◌, ℕ, ◌*◌, ◌≤◌, ◌<◌, Float, length}
 use Rattle.std.proofs.Math.Path.{ap}
 use Rattle.std.proofs.Common.{◌∙◌, arith, le-leb}

@@ -1,8 +1,8 @@
 -- A step towards `ProfileLaws`: the stations of a mesh of which none of the causes 1 to 8 and 12 holds. States:
--- `value-single`, `single-value`, `refused-single`, `single-refused`: the field at a station and the single call there are the same, but for the number in a refusal;
+-- `value_single`, `single_value`, `refused_single`, `single_refused`: the field at a station and the single call there are the same, but for the number in a refusal;
 -- `stations-refused`: where the stations have a cause, it is 11 at the first that is refused;
--- `filled-agrees`: `filled` of the cause is how many stations come before the first that is refused;
--- `record-part`: the record of a station among the records of many. Assumes nothing.
+-- `filled_agrees`: `filled` of the cause is how many stations come before the first that is refused;
+-- `record_part`: the record of a station among the records of many. Assumes nothing.
 use Rattle.std.specs.Prelude.{◌≡◌, refl, Float, drop}
 use Rattle.std.proofs.Math.Path.{sym, ap}
 use Rattle.std.proofs.Common.{◌∙◌, drop_at}

@@ -1,6 +1,6 @@
 -- What work, which was l, holds after `profile`. States:
--- `work-untouched`: after 1, 2, 12 and 3 it is as it was;
--- `work-by-surface`: else it is what the causes 4 to 8 leave: whether a station is refused changes nothing of it. Assumes nothing.
+-- `work_untouched`: after 1, 2, 12 and 3 it is as it was;
+-- `work-by_surface`: else it is what the causes 4 to 8 leave: whether a station is refused changes nothing of it. Assumes nothing.
 use Rattle.std.specs.Prelude.{◌≡◌, refl, true, ◌&&◌, List, ℕ, ◌*◌, ◌%◌, Float, length}
 use Rattle.std.proofs.Math.Path.{ap}
 use Rattle.std.proofs.Math.Dec.{eqb, leb}

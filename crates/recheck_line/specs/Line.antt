@@ -46,7 +46,7 @@ input_line None b = answer_line (refused WrongLength)
 
 -- ---- a line in a lent buffer
 
--- no line is longer (`line-most`, proofs/Text)
+-- no line is longer (`line_most`, proofs/Text)
 abbrev pub line_room : ℕ
 line_room = 51
 

@@ -1,4 +1,4 @@
--- What a public call answers: a value, or a refusal. Each call has an enum of its own for its answer; a definition beside it, `answer_of` or `integralAnswer` and
+-- What a public call answers: a value, or a refusal. Each call has an enum of its own for its answer; a definition beside it, `answer_of` or `integral_answer` and
 -- their like, gives the answer of each case.
 -- Definitions only.
 use Rattle.refusals.specs.declared.Refusal.{Refusal}

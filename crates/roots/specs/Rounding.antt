@@ -1,5 +1,5 @@
--- How `rootOf` rounds √n. States: `rootOf-rounded`: it rounds to c * 2 ^ k, with √n from (c - 1/2) * 2 ^ k to (c + 1/2) * 2 ^ k (`RoundedRoot`); `nearest-above` and
--- `nearest-below`: √n is on c * 2 ^ k's side of the number halfway to any other number of 53 digits; `root_ge` and `root-le`: c * 2 ^ k is on the same side of such
+-- How `root_of` rounds √n. States: `root_of_rounded`: it rounds to c * 2 ^ k, with √n from (c - 1/2) * 2 ^ k to (c + 1/2) * 2 ^ k (`RoundedRoot`); `nearest_above` and
+-- `nearest_below`: √n is on c * 2 ^ k's side of the number halfway to any other number of 53 digits; `root_ge` and `root_le`: c * 2 ^ k is on the same side of such
 -- a number as √n. Assumes nothing.
 use Rattle.std.specs.Prelude.{◌≡◌, ℕ, zero, suc, ◌+◌, ◌-◌, ◌*◌, ◌/◌, ◌%◌, ◌^◌, ◌<◌, ◌≤◌, false, not, T, ◌⊎◌}
 use Rattle.std.proofs.Math.Path.{refl, subst}

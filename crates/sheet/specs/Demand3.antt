@@ -1,4 +1,4 @@
--- Demand 3, as one statement of the definitions of the writer and the checker. Definitions only; crate sheet_laws proves it (`demand-3`), and the contracts of
+-- Demand 3, as one statement of the definitions of the writer and the checker. Definitions only; crate sheet_laws proves it (`demand_3`), and the contracts of
 -- `write_sheet` and `check_sheet` carry it.
 use Rattle.std.specs.Prelude.{◌≡◌, List, [], ◌∷◌, ◌↔◌, ℕ, length}
 use Rattle.refusals.specs.Answer.{value}

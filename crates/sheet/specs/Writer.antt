@@ -1,4 +1,4 @@
--- What `write_sheet` answers, and what the lent out holds afterwards; work is as `workAfter` of the mesh has it. Each cause of refusal carries its number in document 01,
+-- What `write_sheet` answers, and what the lent out holds afterwards; work is as `work_after` of the mesh has it. Each cause of refusal carries its number in document 01,
 -- and is judged from the arguments and the lengths `w` of work and `o` of out. Definitions only.
 use Rattle.std.specs.Prelude.{Bool, ◌&&◌, cond, List, [], ◌∷◌, ◌++◌, ℕ, ◌%◌, eqb, leb, length, drop, replicate}
 use Rattle.refusals.specs.Numbers.{number_of}

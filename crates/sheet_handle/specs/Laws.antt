@@ -1,4 +1,4 @@
--- The handle, moved row after row, gives the rows of the sheet, whatever the bytes: `row-after-row`, at the end. Assumes nothing.
+-- The handle, moved row after row, gives the rows of the sheet, whatever the bytes: `row_after-row`, at the end. Assumes nothing.
 use Rattle.std.specs.Prelude.{◌≡◌, List, [], length, take, drop}
 use Rattle.std.proofs.Math.Path.{refl, ap}
 use Rattle.std.proofs.Common.{sym, ◌∙◌, length-drop, length-take-le}

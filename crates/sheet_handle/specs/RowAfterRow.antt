@@ -1,4 +1,4 @@
--- The handle on the bytes `b` of a sheet: it stands at a row, gives that row's part of the sheet (`rowPart` of the checker's definitions), and moves to the next. Definitions only;
+-- The handle on the bytes `b` of a sheet: it stands at a row, gives that row's part of the sheet (`row_part` of the checker's definitions), and moves to the next. Definitions only;
 -- `Laws` shows `RowAfterRow` of every list of bytes.
 use Rattle.std.specs.Prelude.{◌≡◌, cond, List, [], ◌++◌, ℕ, zero, suc, ◌+◌, ◌≤◌, ◌<◌, ltb, length}
 use Rattle.refusals.specs.declared.Cause.{Cause}

@@ -1,4 +1,4 @@
--- Demand 3, as sheet/specs/Demand3 states it: `demand-3`, at the end, with each of its sentences by name above it. Assumes nothing.
+-- Demand 3, as sheet/specs/Demand3 states it: `demand_3`, at the end, with each of its sentences by name above it. Assumes nothing.
 use Rattle.std.specs.Prelude.{◌≡◌, refl, List, [], ◌∷◌, ◌↔◌, ℕ, ◌+◌, ◌*◌, ◌≤◌, length, take, drop}
 use Rattle.std.proofs.Common.{sym, ap, ◌∙◌, arith}
 use Rattle.refusals.specs.Answer.{value, or_answer}

@@ -1,4 +1,4 @@
--- The potential and the gradient that the definitions give are doubles, since their last operation is rounded: `fieldAt-fits`, at the end. Assumes nothing.
+-- The potential and the gradient that the definitions give are doubles, since their last operation is rounded: `field_at_fits`, at the end. Assumes nothing.
 use Rattle.std.specs.Prelude.{◌≡◌, refl, Bool, true, false, cond, ◌&&◌, List, ℕ, zero, suc, T, leb, length, Float}
 use Rattle.std.proofs.Common.{subst, arith}
 use Rattle.std.specs.Float.{binary64}

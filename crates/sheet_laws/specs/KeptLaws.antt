@@ -1,4 +1,4 @@
--- The sheet of an input of which no cause of refusal holds has its length (`sheet-length`), holds the input bit for bit, and is accepted (`is-kept`, at the end).
+-- The sheet of an input of which no cause of refusal holds has its length (`sheet_length`), holds the input bit for bit, and is accepted (`is-kept`, at the end).
 -- Assumes nothing.
 use Rattle.std.specs.Prelude.{◌≡◌, refl, true, T, length, take, drop, Float}
 use Rattle.std.proofs.Math.Path.{sym, ap}

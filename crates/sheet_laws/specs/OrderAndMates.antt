@@ -1,5 +1,5 @@
 -- The causes 17 and 18: a list that passes 17 is the order list (`is-order`), mates that pass 18 then are the mates (`is-mates`), and the mesh is closed
--- (`is-closed`); of a closed mesh both pass (`order-passes`, `mates-pass`). Assumes nothing.
+-- (`is-closed`); of a closed mesh both pass (`order_passes`, `mates_pass`). Assumes nothing.
 use Rattle.std.specs.Prelude.{◌≡◌, refl, Bool, false, ◌||◌, List, map, eqb, ltb, get_or}
 use Rattle.std.proofs.Common.{sym, ap, ap₂, ◌∙◌, subst, ⊎_elim, eq-or-lt_of_le, le_of_suc-le-suc, not-suc-le-zero}
 use Rattle.std.proofs.Math.Bool.{true}

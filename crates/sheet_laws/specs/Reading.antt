@@ -1,4 +1,4 @@
--- What is read of a sheet's bytes: the counts (`kind-read` and its like), where its parts stand (`plan-split`, `pointer_read`), and its rows, together where each
+-- What is read of a sheet's bytes: the counts (`kind_read` and its like), where its parts stand (`plan-split`, `pointer_read`), and its rows, together where each
 -- stands (`rows_join`) and each where all stand (`rows_apart`). Assumes nothing.
 use Rattle.std.specs.Prelude.{◌≡◌, true, ◌&&◌, leb, take, drop, Float}
 use Rattle.std.proofs.Math.Path.{refl, sym}

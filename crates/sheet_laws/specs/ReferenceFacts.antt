@@ -1,5 +1,5 @@
 -- The reference facts of document 01 that are shown of the definitions, those marked with a star, as one fact over one list: the eight of the tetrahedron T, the root of
--- 2.25, and the total field of (0, 0, 0) and (3, 4, 0): `reference-facts`. Assumes nothing.
+-- 2.25, and the total field of (0, 0, 0) and (3, 4, 0): `reference_facts`. Assumes nothing.
 use Rattle.std.specs.Prelude.{◌≡◌, refl, List, [], ◌∷◌, ◌++◌, map, Float}
 use Rattle.std.proofs.Common.{ap, ap₂}
 use Rattle.std.specs.Float.{binary64}

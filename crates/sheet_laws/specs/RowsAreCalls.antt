@@ -2,9 +2,9 @@
 -- and ambient field `body`'s formula, with the constant of the sheet's kind, and `total_field`'s. Assumes nothing. States:
 -- `FieldFromCalls s i g`: the public call, with the body of s, answers the field g at station i;
 -- `RowFromCalls b i`: that is so of what the sheet b holds, for some field, and the bytes of row i are the bits of the row made from that field;
--- `rows-are-calls`: so it is of every row of an accepted sheet; `written-rows`: and of one that the writer wrote;
--- `row-elsewhere`: a station has the same row among other stations, under whatever number, where kind, body, magnetisation and ambient field are the same;
--- `anomaly-from-body`, `total-from-call`: where the public `body` and `total_field` answer (they refuse by 3 what is over 10⁹), theirs are the row's numbers.
+-- `rows_are_calls`: so it is of every row of an accepted sheet; `written-rows`: and of one that the writer wrote;
+-- `row_elsewhere`: a station has the same row among other stations, under whatever number, where kind, body, magnetisation and ambient field are the same;
+-- `anomaly_from-body`, `total_from_call`: where the public `body` and `total_field` answer (they refuse by 3 what is over 10⁹), theirs are the row's numbers.
 use Rattle.std.specs.Prelude.{◌≡◌, Bool, true, false, ◌&&◌, List, ℕ, ◌+◌, ◌*◌, ◌/◌, ◌≤◌, ◌<◌, length, take, drop, Float}
 use Rattle.std.proofs.Common.{sym, ◌∙◌, subst, arith}
 use Rattle.std.proofs.Math.Path.{ap}

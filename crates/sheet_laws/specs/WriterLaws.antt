@@ -1,4 +1,4 @@
--- The writer's causes as plain statements: none of them holds exactly where each is denied by itself (`no-cause`, `cause-none`, at the end; above them cause by
+-- The writer's causes as plain statements: none of them holds exactly where each is denied by itself (`no_cause`, `cause-none`, at the end; above them cause by
 -- cause). Assumes nothing.
 use Rattle.std.specs.Prelude.{◌≡◌, Bool, false, ◌&&◌, ◌||◌, ◌⊎◌, ℕ, zero, suc, ◌%◌, ◌≤◌, ◌<◌, leb, length, get_or, Float}
 use Rattle.std.proofs.Math.Path.{refl}

@@ -1,4 +1,4 @@
--- The length that a caller is told is the sheet's: `length-of-input`, of what a sheet is made from where neither 1 nor 2 refuses, and `length-of-bytes`, of bytes that
+-- The length that a caller is told is the sheet's: `length_of_input`, of what a sheet is made from where neither 1 nor 2 refuses, and `length_of-bytes`, of bytes that
 -- none of 16, 1 and 2 refuses. Assumes nothing.
 use Rattle.std.specs.Prelude.{◌≡◌, Bool, true, false, ◌&&◌, List, ℕ, ◌%◌, eqb, length}
 use Rattle.std.proofs.Common.{sym, ◌∙◌}

@@ -1,5 +1,5 @@
--- What the crates above know of a kind: a prism is no mesh (`prism-no-mesh`); no row is wider than `maxWidth` (`width_few`, and for the bytes of several rows
--- `rows_few`, `row_within`); a row has as many numbers as its kind says (`row-width`). Assumes nothing.
+-- What the crates above know of a kind: a prism is no mesh (`prism_no_mesh`); no row is wider than `max_width` (`width_few`, and for the bytes of several rows
+-- `rows_few`, `row_within`); a row has as many numbers as its kind says (`row_width`). Assumes nothing.
 use mathlib.Core.Path.{◌≡◌, refl}
 use mathlib.Core.Bool.{true, false}
 use Prim.Native.Nat.{ℕ, ◌+◌, ◌*◌, ◌≤◌, ◌<◌}

@@ -1,4 +1,4 @@
--- A row is refused by 10 or 11 with the station's number, and by no other: `rowAt-refused`, at the end. Assumes nothing.
+-- A row is refused by 10 or 11 with the station's number, and by no other: `row_at-refused`, at the end. Assumes nothing.
 use Rattle.std.specs.Prelude.{◌≡◌, Bool, true, false, cond, List, ◌⊎◌, ℕ, Float}
 use Rattle.std.proofs.Common.{ap, inl, inr, arith}
 use Rattle.refusals.specs.Answer.{Answer, value, refused}

@@ -1,7 +1,7 @@
 -- A row is made from the field at its station, and a station's number shows in a refusal alone, never in the row. Assumes nothing. States:
--- `row_field`: the field at the station is that in the row, and the row is `rowFrom` it;
--- `fieldAt-value`, `rowAt-value`: the field and the row under one number are those under every other;
--- `rowAt-refusal`: what is refused under one number is refused under every other: a mesh by 11, a prism by 10, with that number.
+-- `row_field`: the field at the station is that in the row, and the row is `row_from` it;
+-- `field_at-value`, `row_at-value`: the field and the row under one number are those under every other;
+-- `row_at-refusal`: what is refused under one number is refused under every other: a mesh by 11, a prism by 10, with that number.
 use Rattle.std.specs.Prelude.{◌≡◌, Bool, true, false, cond, List, ℕ, Float}
 use Rattle.std.proofs.Common.{sym, ◌∙◌, arith}
 use Rattle.std.proofs.Math.Path.{ap}

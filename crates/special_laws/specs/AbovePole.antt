@@ -1,5 +1,5 @@
 -- For `InnerRj`. States: `p'-above`: R_J for p below zero hands R_J a p' that is neither zero nor below it: it is above zero, or an infinity, or a NaN; `inner_of`:
--- so the inner call goes to the loop, as `rjSorted` says. Before them `add-unsigned` and `sub-unsigned`: which sums and differences have no sign. Assumes nothing.
+-- so the inner call goes to the loop, as `rj_sorted` says. Before them `add-unsigned` and `sub-unsigned`: which sums and differences have no sign. Assumes nothing.
 use Rattle.std.specs.Prelude.{◌≡◌, refl, Bool, true, false, not, ◌&&◌, cond, ℕ, zero, suc, ◌+◌, ◌-◌, ◌*◌, ◌^◌, ◌≤◌, ◌<◌, T, ltb, eqb, Float}
 use Rattle.std.proofs.Common.{le_trans, not-le_of_lt, mul-pos, arith, ltb→lt}
 use Rattle.std.specs.Float.{nan, inf, fin, Format, binary64}
@@ -16,7 +16,7 @@ use Rattle.doubles.proofs.Between.{positive_of_num}
 use Rattle.doubles.proofs.Signs.{above_zero}
 use Rattle.special_rj.specs.Rj.{p', rj, rj_above}
 
--- no sign: a NaN, +∞, or finite with a clear sign bit (`finiteUnsigned`)
+-- no sign: a NaN, +∞, or finite with a clear sign bit (`finite_unsigned`)
 abbrev pub unsigned : Float → Bool
 unsigned nan = true
 unsigned (inf s) = not s

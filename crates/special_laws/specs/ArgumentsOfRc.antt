@@ -1,5 +1,5 @@
--- Each R_C that ln, atan and atan2 call has its arguments from 1/4 to 4. States: `in-ln`, `in-atan` and `in-atan-beyond`: so it takes at most six rounds
--- (`WithinSix`); and before them `places-low` and `places-high`: the t of ln lies from 3/4 up and below 3/2; `y-within` and `reciprocal`: the y of atan lies from 1/4
+-- Each R_C that ln, atan and atan2 call has its arguments from 1/4 to 4. States: `in_ln`, `in_atan` and `in_atan_beyond`: so it takes at most six rounds
+-- (`WithinSix`); and before them `places-low` and `places-high`: the t of ln lies from 3/4 up and below 3/2; `y_within` and `reciprocal`: the y of atan lies from 1/4
 -- to 4, and 1/z up to 1 where z is beyond it. Assumes nothing.
 use Rattle.std.specs.Prelude.{◌≡◌, ℕ, suc, ◌-◌, ◌*◌, ◌^◌, ◌≤◌, ◌<◌, Bool, true, false, not, cond, pos, negsuc, T, leb, Float}
 use Rattle.std.proofs.Common.{ap, ◌∙◌, lt_of_not-le, not-le_of_lt, le_of_lt, lt_of_lt_of_le, mul-le-mul_right, le_of_mul-le-mul_right, pow-suc, arith, leb→le, pow_pos, pow_mono}

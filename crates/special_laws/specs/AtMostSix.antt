@@ -1,5 +1,5 @@
--- States: `ln-rounds`, `atan-rounds`, `atan2-rounds`: inside ln, atan and atan2 Carlson's loop takes at most six rounds, for every double; `ln-depends`,
--- `atan-depends`, `atan2-depends`: the three use R_C at such arguments alone; `ln-not-refused`, `atan-not-refused`, `atan2-not-refused`: so they have no refusal 15
+-- States: `ln-rounds`, `atan-rounds`, `atan2-rounds`: inside ln, atan and atan2 Carlson's loop takes at most six rounds, for every double; `ln_depends`,
+-- `atan_depends`, `atan2_depends`: the three use R_C at such arguments alone; `ln-not-refused`, `atan-not-refused`, `atan2-not-refused`: so they have no refusal 15
 -- to pass on; `rc-rounds`: any R_C takes at most 64. Assumes nothing.
 use Rattle.std.specs.Prelude.{◌≡◌, ℕ, zero, suc, ◌+◌, ◌≤◌, ◌<◌, Bool, true, false, not, ◌||◌, cond, T, eqb}
 use Rattle.std.proofs.Math.Path.{refl}

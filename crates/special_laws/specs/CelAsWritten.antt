@@ -1,4 +1,4 @@
--- cel by the Rust's loop (`asWritten`): 64 times the first half of a round, the test, and the second half. States: `cel-as-written`: `celOf`, which groups the
+-- cel by the Rust's loop (`as_written`): 64 times the first half of a round, the test, and the second half. States: `cel_as_written`: `cel_of`, which groups the
 -- halves otherwise, gives the same. Assumes nothing.
 use Rattle.std.specs.Prelude.{◌≡◌, refl, Bool, true, false, cond, ℕ, zero, suc, Float}
 use Rattle.std.proofs.Common.{sym, ap, ◌∙◌}

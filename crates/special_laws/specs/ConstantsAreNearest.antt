@@ -1,5 +1,5 @@
--- The constants of Carlson's integrals and of the ring. States: `constants-are-nearest`: those with a decimal value are the doubles nearest it. Of the three powers
--- of ε, which are as the reference build has them: `eighth-is-nearest`: one is the nearest double; `sixth-is-two-low` and `sixth-of-quarter-is`: two are a few units
+-- The constants of Carlson's integrals and of the ring. States: `constants_are_nearest`: those with a decimal value are the doubles nearest it. Of the three powers
+-- of ε, which are as the reference build has them: `eighth_is_nearest`: one is the nearest double; `sixth_is-two-low` and `sixth_of_quarter-is`: two are a few units
 -- in the last place low, since the Rust's exponent is -1/6 rounded. They bound an error, and enter no value. Assumes nothing.
 use Rattle.std.specs.Prelude.{◌≡◌, refl, [], ◌∷◌, false, ℕ, ◌+◌, ◌-◌, ◌*◌, ◌^◌, ◌<◌, negsuc}
 use Rattle.std.proofs.Common.{lit≤}

@@ -1,5 +1,5 @@
--- States: `inner-rj`, at the end: for x, y, z in R_J's domain and p finite and below zero, the inner R_J of Carlson's Eq. 2.23a, at x, y, z in order and p', is the
--- one for p above zero. So `rjSorted`, which calls that one, is the Rust's recursion. For in the domain the three in order ascend and the middle one is above zero
+-- States: `inner_rj`, at the end: for x, y, z in R_J's domain and p finite and below zero, the inner R_J of Carlson's Eq. 2.23a, at x, y, z in order and p', is the
+-- one for p above zero. So `rj_sorted`, which calls that one, is the Rust's recursion. For in the domain the three in order ascend and the middle one is above zero
 -- (`ThreeInOrder`), so that p' is above zero, or infinite, or a NaN (`AbovePole`). Assumes nothing.
 use Rattle.std.specs.Prelude.{◌≡◌, true, false, zero, suc, ◌+◌, ◌*◌, ◌<◌, T, Float}
 use Rattle.std.proofs.Common.{arith, ltb→lt, lt→ltb}

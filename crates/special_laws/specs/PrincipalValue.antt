@@ -1,4 +1,4 @@
--- States: `principal-value`: for y below zero R_C(x, y) is √(x / (x - y)) R_C(x - y, -y), as the Rust writes it: -y is above zero, so that its loop is R_C.
+-- States: `principal_value`: for y below zero R_C(x, y) is √(x / (x - y)) R_C(x - y, -y), as the Rust writes it: -y is above zero, so that its loop is R_C.
 -- Assumes nothing.
 use Rattle.std.specs.Prelude.{◌≡◌, refl, Bool, true, false, ℕ, ◌+◌, ◌*◌, ◌<◌, ℤ, Float}
 use Rattle.std.proofs.Common.{subst, lt_irrefl, zero-mul, arith, ltb→lt, lt→ltb}

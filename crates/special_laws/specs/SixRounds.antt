@@ -1,4 +1,4 @@
--- States: `within-six`: R_C of two arguments from 1/4 to 4 takes at most six rounds (`WithinSix`). A duplication keeps the interval from 1/4 to 4, since at either
+-- States: `within_six`: R_C of two arguments from 1/4 to 4 takes at most six rounds (`WithinSix`). A duplication keeps the interval from 1/4 to 4, since at either
 -- end each of its operations is exact; Q is below 512, and 4⁻⁶ 512 is below 1/4. Assumes nothing.
 use Rattle.std.specs.Prelude.{◌≡◌, refl, Bool, true, false, not, ℕ, zero, suc, ◌+◌, ◌≤◌, pos, negsuc, T, Float}
 use Rattle.std.proofs.Common.{sym, ap, subst, le_of_suc-le-suc, not-suc-le-zero, arith, lit≤}

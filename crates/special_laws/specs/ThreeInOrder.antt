@@ -1,5 +1,5 @@
--- R_J for p below zero takes x, y and z in ascending order by `min` and `max` (`leastOf`, `middle_of`, `greatestOf`). Of doubles in R_J's domain this states:
--- `in-some-order`: they are x, y, z in one of the six orders; `ascending`: none is below the one before it; `middle-above`: the middle one is above zero.
+-- R_J for p below zero takes x, y and z in ascending order by `min` and `max` (`least_of`, `middle_of`, `greatest_of`). Of doubles in R_J's domain this states:
+-- `in_some_order`: they are x, y, z in one of the six orders; `ascending`: none is below the one before it; `middle_above`: the middle one is above zero.
 -- Of two equal numbers `min` and `max` both give the first, so that of +0 and -0 one would be lost; but the domain has at most one zero. Assumes nothing.
 use Rattle.std.specs.Prelude.{◌≡◌, Bool, ℕ, zero, suc, ◌*◌, ◌<◌, T, Float}
 use Rattle.std.proofs.Math.Path.{refl}

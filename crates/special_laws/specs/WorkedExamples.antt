@@ -1,8 +1,8 @@
--- Worked values of the definitions. Assumes nothing. States, as the Rust's documentation has them: `rc-is-π` and `rc-rounds-of-π`: R_C(0, 1/4) is π, after 4 rounds;
--- `K-of-half`, `E-of-half`: K(1/2) = 1.854074677301372 and E(1/2) = 1.350643881047675 within 10⁻¹⁴; `cel-is-K`: cel(√(1/2), 1, 1, 1) = K(1/2) within 10⁻¹⁴.
--- Besides, `ln-of-2`: ln 2 is LN2; `atan-of-1` and `atan-rounds-of-1`: atan 1 is π/4, after 3 rounds; `rf-rc-rd-check-values`, `rj-check-values`,
--- `rj-principal-check-values`: nine check values of Carlson 1995, section 3, within half a unit of the last digit printed; the paper was not at hand, so its
--- figures are still to be held against it. `ring-on-the-axis`, `ring-off-the-axis`: a ring's average and gradient within 10⁻¹⁴, on the axis 1/r and -z/r³.
+-- Worked values of the definitions. Assumes nothing. States, as the Rust's documentation has them: `rc-is_π` and `rc_rounds_of_π`: R_C(0, 1/4) is π, after 4 rounds;
+-- `K-of-half`, `E-of-half`: K(1/2) = 1.854074677301372 and E(1/2) = 1.350643881047675 within 10⁻¹⁴; `cel-is_K`: cel(√(1/2), 1, 1, 1) = K(1/2) within 10⁻¹⁴.
+-- Besides, `ln_of_2`: ln 2 is LN2; `atan_of_1` and `atan_rounds_of_1`: atan 1 is π/4, after 3 rounds; `rf-rc-rd_check_values`, `rj_check_values`,
+-- `rj_principal_check_values`: nine check values of Carlson 1995, section 3, within half a unit of the last digit printed; the paper was not at hand, so its
+-- figures are still to be held against it. `ring-on_the_axis`, `ring_off_the_axis`: a ring's average and gradient within 10⁻¹⁴, on the axis 1/r and -z/r³.
 use Rattle.std.specs.Prelude.{◌≡◌, refl, Bool, true, false, ◌&&◌, List, [], ◌∷◌, ℕ, ◌+◌, ◌-◌, ◌*◌, ◌^◌, leb, negsuc, Float}
 use Rattle.std.specs.Bool.{beq}
 use Rattle.std.specs.Float.{nan, inf, fin, binary64}
