@@ -16,9 +16,11 @@ count_of (suc n) h = count-is (suc n) (omega arith) h
 pub is_rule : (n : ℕ) → n ≤ max_order → {rule : Rule} → rule ≡ gauss_legendre n → (rule.count ≡ n) × IsRule rule
 is_rule n h e =
     let q = count_of n h in
-    rw e
-    (q, record {
-      small = rw q h;
-      nodes = λ i l. rw q (node_at n i nan h (rw q at l));
-      weights = λ i l. rw q (weight-at n i nan h (rw q at l));
-    })
+    rw e (
+      q,
+      record {
+        small = rw q h;
+        nodes = λ i l. rw q (node_at n i nan h (rw q at l));
+        weights = λ i l. rw q (weight-at n i nan h (rw q at l));
+      },
+    )
