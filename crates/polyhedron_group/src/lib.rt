@@ -21,10 +21,7 @@ fn face_in(first: usize, n: usize, k: usize) -> usize
     requires { (first < n) × (n ≤ max_faces) × (k < 8) }
     ensures { result ≡ face_in first n k }
 {
-    if first + k < n {
-        return first + k;
-    }
-    n - 1
+    (first + k).min(n - 1)
 }
 
 // The corners of the faces.
