@@ -2,16 +2,16 @@
 -- a loop over the faces begins and goes on, by one and by several; `same-sums`: two functions that are the same; `face-added`: the points over a face give what the
 -- definition says of the face. Assumes nothing.
 use mathlib.Core.Path.{◌≡◌, refl, sym, ap, ◌∙◌}
-use mathlib.Core.Bool.{Bool, true, false}
+use mathlib.Core.Bool.{Bool}
 use mathlib.Core.List.{List}
 use mathlib.Core.Logic.{⊎_elim}
 use Prim.Native.Nat.{ℕ, ◌+◌, ◌≤◌, ◌<◌}
 use native.Mathlib.Nat.{not-suc-le-zero}
 use native.Mathlib.Omega.{arith}
 use lib.Ieee.{Float}
-use lib.ListN.{length, get_or, set, length-set}
+use lib.ListN.{length, set, length-set}
 use lib.Seq.{get_or-set_same, get_or-set_other}
-use Rattle.lists.proofs.Numbers.{same?, true≢false}
+use Rattle.lists.proofs.Numbers.{same?}
 use Rattle.newtonian.specs.Fold.{Fold, fold-none, fold_more}
 use Rattle.newtonian.specs.Vectors.{field_numbers}
 use Rattle.newtonian.specs.declared.Newtonian.{Newtonian}

@@ -50,7 +50,7 @@ impl Stations {
         }
     }
 
-    // The squared distances of the point u from them, in the lanes from o on.
+    // The squared distances of the point u from them, in the lanes from o on. By the index: a loop with one body over fixed arrays is what the compiler makes packed instructions of.
     fn squares(&self, u: Vector, o: usize, q: &mut [f64; 24])
         requires { o + 8 ≤ 24 }
         ensures kept { (i : ℕ) → i < o → lane q.new i ≡ lane q.old i }
@@ -86,7 +86,7 @@ impl EightFields {
         }
     }
 
-    // Station k's field.
+    // Station k's field. Number by number: a loop would fill an array of thirteen, to be taken apart in the same way.
     pub fn at(&self, k: usize) -> Newtonian
         requires { k < 8 }
         ensures { result ≡ field_at self.now.numbers k }
@@ -147,7 +147,13 @@ impl EightFields {
         for k in 0..8usize {
             let p = stations.at(k);
             let f = self.at(k);
-            let v = newtonian::add_point_at(w, difference(u, p), d.squares[o + k], d.roots[o + k], f);
+            let v = newtonian::add_point_at(
+                w,
+                difference(u, p),
+                d.squares[o + k],
+                d.roots[o + k],
+                f,
+            );
             self.put(k, v);
         }
     }

@@ -84,7 +84,7 @@ impl Points {
         newtonian::difference(self.at(n), p)
     }
 
-    // The squared distances of the 24 points from n on.
+    // The squared distances of the 24 points from n on. By the index: a loop with one body over fixed arrays is what the compiler makes packed instructions of.
     fn squares(&self, p: Vector, n: usize, q: &mut [f64; 24])
         requires { n + 24 ≤ point_count }
         ensures { Lanes 24 (λ (k : ℕ). point_square p self.now.x self.now.y self.now.z (n + k)) q.new }

@@ -37,6 +37,7 @@ pub struct Sums {
 
 impl Sums {
     // The sums before the first term.
+    #[tactic(auto, unfolding(crate::specs::Neumaier::no_sums))]
     pub fn new() -> Self
         ensures { result.pairs ≡ no_sums }
     {
@@ -57,6 +58,7 @@ impl Sums {
         }
     }
 
+    #[tactic(auto, unfolding(crate::specs::Neumaier::total_at))]
     fn total_at(&self, k: usize) -> f64
         requires { k < field_size }
         ensures { result ≡ total_at self.now.pairs k }
@@ -66,6 +68,7 @@ impl Sums {
     }
 
     // Three sums, from sum k on.
+    #[tactic(auto, unfolding(crate::specs::Neumaier::total_vector))]
     fn total_vector(&self, k: usize) -> Vector
         requires { k + 2 < field_size }
         ensures { result ≡ total_vector self.now.pairs k }
@@ -78,6 +81,7 @@ impl Sums {
     }
 
     // The field whose numbers the sums are, with what they have lost.
+    #[tactic(auto, unfolding(crate::specs::Neumaier::totals))]
     pub fn total(&self) -> Newtonian
         ensures { result ≡ totals self.now.pairs }
     {

@@ -21,6 +21,7 @@ pub struct Tetrahedron {
 }
 
 // The tetrahedron from the apex a to the face with the corners b, c and d.
+#[tactic(auto, unfolding(crate::specs::Tetrahedra::over_face))]
 pub fn over_face(a: Vector, b: Vector, c: Vector, d: Vector) -> Tetrahedron
     ensures { result ≡ over_face a b c d }
 {
@@ -31,6 +32,7 @@ pub fn over_face(a: Vector, b: Vector, c: Vector, d: Vector) -> Tetrahedron
     Tetrahedron { ab, bc, cd, vol6 }
 }
 
+#[tactic(auto, unfolding(crate::specs::Tetrahedra::duffy_axis))]
 fn duffy_axis(a: f64, ab: f64, bc: f64, cd: f64, u: f64, v: f64, t: f64) -> f64
     ensures { result ≡ duffy_axis a ab bc cd u v t }
 {
@@ -38,6 +40,7 @@ fn duffy_axis(a: f64, ab: f64, bc: f64, cd: f64, u: f64, v: f64, t: f64) -> f64
 }
 
 // The point of the tetrahedron s at u, v and t.
+#[tactic(auto, unfolding(crate::specs::Tetrahedra::duffy))]
 pub fn duffy(a: Vector, s: Tetrahedron, u: f64, v: f64, t: f64) -> Vector
     ensures { result ≡ duffy a s u v t }
 {
@@ -49,6 +52,7 @@ pub fn duffy(a: Vector, s: Tetrahedron, u: f64, v: f64, t: f64) -> Vector
 }
 
 // The weight that the points of a line have in common.
+#[tactic(auto, unfolding(crate::specs::Tetrahedra::line_weight))]
 pub fn line_weight(vol6: f64, u: f64, v: f64, wu: f64, wv: f64) -> f64
     ensures { result ≡ line_weight vol6 u v wu wv }
 {

@@ -50,6 +50,7 @@ fn corner_angle(x: f64, y: f64, z: f64, r: f64) -> f64
     }
 }
 
+// The three axes by hand: each formula takes x, y and z in turn, which a loop over the axes would have to pick by number.
 fn corner_at(p: Vector, lo: Vector, hi: Vector, k: u32) -> PrismCorner
     ensures { result ≡ corner_at p lo hi k }
 {

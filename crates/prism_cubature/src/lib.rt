@@ -2,10 +2,12 @@
 #![tactic(auto)]
 
 ghost use Rattle.std.specs.Prelude.{◌≡◌, ◌≤◌};
-ghost use Rattle.legendre.specs.GaussLegendre.{max_order, gauss_legendre};
+ghost use Rattle.legendre.specs.GaussLegendre.{max_order};
 ghost use Rattle.newtonian.specs.Fold.{Fold};
 ghost use Rattle.prism_cubature.specs.Cubature.{half_widths, offset, point_weight, point, line, cubature};
+ghost use Rattle.prism_cubature.specs.Rules.{IsRule};
 
+use legendre::Rule;
 use newtonian::{Newtonian, Vector};
 
 pub fn half_widths(lo: Vector, hi: Vector) -> Vector
@@ -30,59 +32,60 @@ fn point_weight(w: f64, wz: f64, h: Vector) -> f64
     w * wz * h.x * h.y * h.z
 }
 
-// The sums f with the line of n points at x and y.
+// The rule of an order; of the order 0, which is refused, it has no node.
+fn rule_of(order: u32) -> Rule
+    requires { order ≤ max_order }
+    ensures { (result.count ≡ order) × IsRule result }
+{
+    legendre::gauss_legendre(order)
+}
+
+// The three sums are alike in their loops alone: one generic loop over a rule would have to say in its contract what its closure adds, which a closure within a closure cannot.
+
+// The sums f with the line of points at x and y that the rule along z gives.
 fn add_line(
     p: Vector,
     lo: Vector,
     hi: Vector,
-    n: usize,
-    nz: &[f64; 16],
-    wz: &[f64; 16],
+    rule: &Rule,
     w: f64,
     x: f64,
     y: f64,
     f: Newtonian,
 ) -> Newtonian
-    requires { (n ≤ max_order) × (nz.now ≡ (gauss_legendre n).nodes) × (wz.now ≡ (gauss_legendre n).weights) }
-    ensures { result ≡ Fold n (point p lo hi n w x y) f }
+    requires { IsRule rule.now }
+    ensures { result ≡ Fold rule.now.count (point p lo hi rule.now.count w x y) f }
 {
     let h = half_widths(lo, hi);
     let mut sums = f;
-    let mut k = 0;
-    while k < n {
-        let z = offset(p.z, lo.z, hi.z, h.z, nz[k]);
-        sums = newtonian::add_point(point_weight(w, wz[k], h), Vector { x, y, z }, sums);
-        k += 1;
+    for k in 0..rule.count {
+        let z = offset(p.z, lo.z, hi.z, h.z, rule.nodes[k]);
+        let wz = rule.weights[k];
+        sums = newtonian::add_point(point_weight(w, wz, h), Vector { x, y, z }, sums);
     }
     sums
 }
 
-// The sums f with the layer of m lines at x. ny and wy are the rule along y, nz and wz the rule along z.
+// The sums f with the layer of lines at x that the rules along y and z give.
 fn add_layer(
     p: Vector,
     lo: Vector,
     hi: Vector,
-    m: usize,
-    ny: &[f64; 16],
-    wy: &[f64; 16],
-    n: usize,
-    nz: &[f64; 16],
-    wz: &[f64; 16],
+    rule_y: &Rule,
+    rule_z: &Rule,
     w: f64,
     x: f64,
     f: Newtonian,
 ) -> Newtonian
-    requires m_le_max_order { (m ≤ max_order) × (ny.now ≡ (gauss_legendre m).nodes) × (wy.now ≡ (gauss_legendre m).weights) }
-    requires n_le_max_order { (n ≤ max_order) × (nz.now ≡ (gauss_legendre n).nodes) × (wz.now ≡ (gauss_legendre n).weights) }
-    ensures { result ≡ Fold m (line p lo hi m n w x) f }
+    requires along_y { IsRule rule_y.now }
+    requires along_z { IsRule rule_z.now }
+    ensures { result ≡ Fold rule_y.now.count (line p lo hi rule_y.now.count rule_z.now.count w x) f }
 {
     let h = half_widths(lo, hi);
     let mut sums = f;
-    let mut j = 0;
-    while j < m {
-        let y = offset(p.y, lo.y, hi.y, h.y, ny[j]);
-        sums = add_line(p, lo, hi, n, nz, wz, w * wy[j], x, y, sums);
-        j += 1;
+    for j in 0..rule_y.count {
+        let y = offset(p.y, lo.y, hi.y, h.y, rule_y.nodes[j]);
+        sums = add_line(p, lo, hi, rule_z, w * rule_y.weights[j], x, y, sums);
     }
     sums
 }
@@ -92,23 +95,15 @@ pub fn cubature(p: Vector, lo: Vector, hi: Vector, l: u32, m: u32, n: u32) -> Ne
     requires { (l ≤ max_order) × (m ≤ max_order) × (n ≤ max_order) }
     ensures { result ≡ cubature p lo hi l m n }
 {
-    let rule_x = legendre::gauss_legendre(l);
-    let rule_y = legendre::gauss_legendre(m);
-    let rule_z = legendre::gauss_legendre(n);
-    let ny = rule_y.nodes;
-    let wy = rule_y.weights;
-    let nz = rule_z.nodes;
-    let wz = rule_z.weights;
+    let rule_x = rule_of(l);
+    let rule_y = rule_of(m);
+    let rule_z = rule_of(n);
     let h = half_widths(lo, hi);
     let mut sums = newtonian::zero_field();
-    let mut i = 0;
-    while i < l as usize {
+    for i in 0..rule_x.count {
         let x = offset(p.x, lo.x, hi.x, h.x, rule_x.nodes[i]);
         let w = rule_x.weights[i];
-        sums = add_layer(
-            p, lo, hi, m as usize, &ny, &wy, n as usize, &nz, &wz, w, x, sums,
-        );
-        i += 1;
+        sums = add_layer(p, lo, hi, &rule_y, &rule_z, w, x, sums);
     }
     sums
 }

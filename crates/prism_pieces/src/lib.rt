@@ -3,18 +3,19 @@
 // prism takes it by the halves given here.
 #![tactic(auto)]
 
-ghost use Rattle.std.specs.Prelude.{◌≡◌, cond};
+ghost use Rattle.std.specs.Prelude.{◌≡◌};
 ghost use Rattle.prism_pieces.specs.Choice.{squared_outside, distance, ceiling, axis_order, affordable, last_longest, longest, shortest, along, with, corner_distance, farthest_corner, too_rough, bisected, piece_near, piece_outside, piece_of};
 
+use lanes::pick;
 use newtonian::{Newtonian, Vector};
 
 // The rule for the longest axis where several are equally long.
-#[derive(Clone, Copy)]
+#[derive(Clone, Copy, Debug, PartialEq, Eq)]
 pub enum AxisRule {
     LastOfEquals,
 }
 
-#[derive(Clone, Copy)]
+#[derive(Clone, Copy, Debug, PartialEq, Eq)]
 pub enum Axis {
     X,
     Y,
@@ -40,6 +41,7 @@ const MAX_ORDER: u32 = 16;
 
 const MAX_POINTS: u32 = 512;
 
+#[tactic(auto, unfolding(crate::specs::Choice::squared_outside))]
 fn squared_outside(p: f64, lo: f64, hi: f64) -> f64
     ensures { result ≡ squared_outside p lo hi }
 {
@@ -47,6 +49,7 @@ fn squared_outside(p: f64, lo: f64, hi: f64) -> f64
     d * d
 }
 
+#[tactic(auto, unfolding(crate::specs::Choice::distance))]
 fn distance(p: Vector, lo: Vector, hi: Vector) -> f64
     ensures { result ≡ distance p lo hi }
 {
@@ -56,7 +59,7 @@ fn distance(p: Vector, lo: Vector, hi: Vector) -> f64
     roots::root(-0.0 + x + y + z)
 }
 
-// x rounded up, but at least 1, and 17 for all that is above 16.
+// x rounded up, but at least 1, and 17 for all that is above 16. Counted, since std's rounding up of a NaN or of a large number does not fit a u32.
 fn ceiling(x: f64) -> u32
     ensures { result ≡ ceiling x }
 {
@@ -80,18 +83,13 @@ fn axis_order(d: f64, h: f64) -> u32
 fn affordable(l: u32, m: u32, n: u32) -> bool
     ensures { result ≡ affordable l m n }
 {
-    if l > MAX_ORDER {
-        return false;
-    }
-    if m > MAX_ORDER {
-        return false;
-    }
-    if n > MAX_ORDER {
+    if l > MAX_ORDER || m > MAX_ORDER || n > MAX_ORDER {
         return false;
     }
     l * m * n <= MAX_POINTS
 }
 
+#[tactic(auto, unfolding(crate::specs::Choice::last_longest))]
 fn last_longest(h: Vector) -> Axis
     ensures { result ≡ last_longest h }
 {
@@ -102,6 +100,7 @@ fn last_longest(h: Vector) -> Axis
     }
 }
 
+#[tactic(auto, unfolding(crate::specs::Choice::longest))]
 fn longest(rule: AxisRule, h: Vector) -> Axis
     ensures { result ≡ longest rule h }
 {
@@ -117,50 +116,39 @@ fn shortest(h: Vector) -> f64
     doubles::min(doubles::min(doubles::min(infinity, h.x), h.y), h.z)
 }
 
-fn along(a: Axis, v: Vector) -> f64
-    ensures { result ≡ along a v }
-{
-    match a {
-        Axis::X => v.x,
-        Axis::Y => v.y,
-        Axis::Z => v.z,
+impl Axis {
+    // The entry of v along it.
+    #[tactic(auto, unfolding(crate::specs::Choice::along))]
+    fn along(self, v: Vector) -> f64
+        ensures { result ≡ along self v }
+    {
+        match self {
+            Axis::X => v.x,
+            Axis::Y => v.y,
+            Axis::Z => v.z,
+        }
+    }
+
+    // v with t along it.
+    #[tactic(auto, unfolding(crate::specs::Choice::with))]
+    fn with(self, t: f64, v: Vector) -> Vector
+        ensures { result ≡ with self t v }
+    {
+        match self {
+            Axis::X => Vector { x: t, ..v },
+            Axis::Y => Vector { y: t, ..v },
+            Axis::Z => Vector { z: t, ..v },
+        }
     }
 }
 
-fn with(a: Axis, t: f64, v: Vector) -> Vector
-    ensures { result ≡ with a t v }
-{
-    match a {
-        Axis::X => Vector {
-            x: t,
-            y: v.y,
-            z: v.z,
-        },
-        Axis::Y => Vector {
-            x: v.x,
-            y: t,
-            z: v.z,
-        },
-        Axis::Z => Vector {
-            x: v.x,
-            y: v.y,
-            z: t,
-        },
-    }
-}
-
-fn pick(upper: bool, lo: f64, hi: f64) -> f64
-    ensures { result ≡ cond upper hi lo }
-{
-    if upper { hi } else { lo }
-}
-
+#[tactic(auto, unfolding(crate::specs::Choice::corner_distance))]
 fn corner_distance(p: Vector, lo: Vector, hi: Vector, k: u32) -> f64
     ensures { result ≡ corner_distance p lo hi k }
 {
-    let x = pick(k % 2 == 1, lo.x, hi.x) - p.x;
-    let y = pick(k / 2 % 2 == 1, lo.y, hi.y) - p.y;
-    let z = pick(k / 4 % 2 == 1, lo.z, hi.z) - p.z;
+    let x = pick(k % 2 == 1, hi.x, lo.x) - p.x;
+    let y = pick(k / 2 % 2 == 1, hi.y, lo.y) - p.y;
+    let z = pick(k / 4 % 2 == 1, hi.z, lo.z) - p.z;
     roots::root(-0.0 + x * x + y * y + z * z)
 }
 
@@ -175,6 +163,7 @@ fn farthest_corner(p: Vector, lo: Vector, hi: Vector) -> f64
 }
 
 // Whether the corner sums' error is above TOL of the potential v; r is the farthest corner's distance.
+#[tactic(auto, unfolding(crate::specs::Choice::too_rough))]
 fn too_rough(r: f64, v: f64) -> bool
     ensures { result ≡ too_rough r v }
 {
@@ -182,22 +171,24 @@ fn too_rough(r: f64, v: f64) -> bool
         > TOL * doubles::abs(v)
 }
 
+#[tactic(auto, unfolding(crate::specs::Choice::bisected))]
 fn bisected(a: Axis, lo: Vector, hi: Vector) -> Piece
     ensures { result ≡ bisected a lo hi }
 {
-    let mid = 0.5 * (along(a, lo) + along(a, hi));
-    let lower_max = with(a, mid, hi);
-    let upper_min = with(a, mid, lo);
+    let mid = 0.5 * (a.along(lo) + a.along(hi));
+    let lower_max = a.with(mid, hi);
+    let upper_min = a.with(mid, lo);
     Piece::Halves(lower_max, upper_min)
 }
 
 // p is outside, and the cubature not affordable.
+#[tactic(auto, unfolding(crate::specs::Choice::piece_near))]
 fn piece_near(rule: AxisRule, p: Vector, lo: Vector, hi: Vector, h: Vector) -> Piece
     ensures { result ≡ piece_near rule p lo hi h }
 {
     let s = prism_corner_lanes::corner_sums(p, lo, hi);
     let a = longest(rule, h);
-    if along(a, h) > 2.0 * shortest(h) {
+    if a.along(h) > 2.0 * shortest(h) {
         if too_rough(farthest_corner(p, lo, hi), s.potential) {
             return bisected(a, lo, hi);
         }
@@ -222,6 +213,7 @@ fn piece_outside(rule: AxisRule, d: f64, p: Vector, lo: Vector, hi: Vector) -> P
 }
 
 // The field of the prism as a whole, or its halves.
+#[tactic(auto, unfolding(crate::specs::Choice::piece_of))]
 pub fn piece_of(rule: AxisRule, p: Vector, lo: Vector, hi: Vector) -> Piece
     ensures { result ≡ piece_of rule p lo hi }
 {

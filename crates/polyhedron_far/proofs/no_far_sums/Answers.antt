@@ -1,8 +1,6 @@
 -- `polyhedron_far::no_far_sums` meets its contract. Assumes nothing.
-use mathlib.Core.List.{List}
 use mathlib.Core.Path.{refl, ap, ◌∙◌}
 use lib.ListN.{get_or-replicate}
-use Rattle.polyhedron_neumaier.specs.declared.Pair.{Pair}
 use Rattle.polyhedron_neumaier.specs.declared.Sums.{Sums}
 use Rattle.polyhedron_far.specs.Far.{no_station}
 use Rattle.polyhedron_far.proofs.no_far_sums.Goals as goal

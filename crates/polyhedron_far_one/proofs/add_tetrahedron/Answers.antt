@@ -6,5 +6,5 @@ pub returns : goal.returns
 returns c =
     let a = c.args in
     face_added a.p a.apex a.verts.now a.faces.now a.k a.sums.now.pairs
-        c.corner-b.ensures c.corner-c.ensures c.corner-d.ensures c.over_face-s.ensures
-        c.fill.ensures c.field-f.ensures c.field_numbers.ensures c.add.ensures
+    c.corner-b.ensures c.corner-c.ensures c.corner-d.ensures c.over_face-s.ensures
+    c.fill.ensures c.field-f.ensures c.field_numbers.ensures c.add.ensures

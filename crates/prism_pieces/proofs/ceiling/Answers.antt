@@ -1,5 +1,4 @@
 -- `prism_pieces::ceiling` meets its contract. Assumes nothing.
-use Prim.Native.Nat.{◌-◌}
 use mathlib.Core.Path.{◌≡◌}
 use native.Mathlib.Omega.{arith}
 use Rattle.legendre.specs.GaussLegendre.{max_order}

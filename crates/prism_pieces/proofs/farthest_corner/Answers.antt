@@ -1,5 +1,4 @@
 -- `prism_pieces::farthest_corner` meets its contract. Assumes nothing.
-use Prim.Native.Nat.{◌-◌}
 use mathlib.Core.Path.{◌≡◌}
 use native.Mathlib.Omega.{arith}
 use Rattle.newtonian.specs.Fold.{fold-none, fold_more}

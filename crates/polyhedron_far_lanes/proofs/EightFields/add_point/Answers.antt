@@ -1,6 +1,6 @@
 -- `polyhedron_far_lanes::EightFields::add_point` meets its contract. Assumes nothing.
 use mathlib.Core.Path.{sym, ap, ap₂, ◌∙◌}
-use Prim.Native.Nat.{◌+◌, ◌-◌, ◌<◌}
+use Prim.Native.Nat.{◌+◌, ◌<◌}
 use native.Mathlib.Omega.{arith}
 use Rattle.newtonian.specs.Point.{add_point}
 use Rattle.newtonian.specs.Vectors.{difference, dot}

@@ -21,5 +21,5 @@ returns c =
     let s = a.stations.now in
     let t = a.points.now in
     three_added s.x s.y s.z t.x t.y t.z t.w a.self.now.numbers a.n
-        c.at-a.ensures c.at-b.ensures c.at-c.ensures
-        c.add_point.ensures c.add_point-2.ensures c.add_point-3.ensures
+    c.at-a.ensures c.at-b.ensures c.at-c.ensures
+    c.add_point.ensures c.add_point-2.ensures c.add_point-3.ensures

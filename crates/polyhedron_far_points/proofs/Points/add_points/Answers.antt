@@ -1,6 +1,6 @@
 -- `polyhedron_far_points::Points::add_points` meets its contract. Assumes nothing.
 use mathlib.Core.Path.{◌≡◌, sym, ap, ◌∙◌}
-use Prim.Native.Nat.{◌-◌, ◌<◌}
+use Prim.Native.Nat.{◌<◌}
 use native.Mathlib.Omega.{arith}
 use Rattle.newtonian.specs.Fold.{fold_more, fold-none}
 use Rattle.newtonian.specs.Vectors.{dot}

@@ -1,6 +1,6 @@
 -- `polyhedron_far_points::Points::field` meets its contract. Assumes nothing.
-use mathlib.Core.Path.{◌≡◌, refl}
-use Prim.Native.Nat.{◌+◌, ◌*◌, ◌-◌}
+use mathlib.Core.Path.{◌≡◌}
+use Prim.Native.Nat.{◌+◌, ◌*◌}
 use native.Mathlib.Omega.{arith}
 use Rattle.newtonian.specs.Fold.{fold-none}
 use Rattle.lanes.proofs.Folds.{fold-add}

@@ -1,7 +1,6 @@
 -- `polyhedron_far_points::Points::field` meets its contract. Assumes nothing.
 use mathlib.Core.Path.{◌≡◌}
 use Prim.Native.Nat.{◌*◌, ◌-◌, ◌≤◌}
-use lib.ListN.{length}
 use Rattle.newtonian.specs.Fold.{Fold}
 use Rattle.newtonian.specs.Vectors.{zero_field}
 use Rattle.polyhedron_far_points.specs.Tetrahedral.{point_step}

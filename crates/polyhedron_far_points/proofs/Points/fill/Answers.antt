@@ -1,5 +1,5 @@
 -- `polyhedron_far_points::Points::fill` meets its contract. Assumes nothing.
-use Prim.Native.Nat.{◌+◌, ◌*◌, ◌-◌}
+use Prim.Native.Nat.{◌+◌, ◌*◌}
 use native.Mathlib.Omega.{arith}
 use Rattle.polyhedron_far_points.specs.Tetrahedral.{point_count}
 use Rattle.polyhedron_far_points.proofs.Pointed.{no_points, so_many}

@@ -1,6 +1,5 @@
 -- `polyhedron_far_points::Points::squares` meets its contract. Assumes nothing.
 use mathlib.Core.Path.{ap, ◌∙◌}
-use Prim.Native.Nat.{◌-◌}
 use native.Mathlib.Omega.{arith}
 use Rattle.newtonian.specs.Vectors.{dot}
 use Rattle.newtonian.specs.declared.Vector.{Vector}

@@ -1,12 +1,8 @@
 -- `polyhedron_tetrahedra::MappedRule::new` meets its contract. Assumes nothing.
-use mathlib.Core.Path.{ap, ◌∙◌}
+use mathlib.Core.Path.{◌∙◌}
 use Prim.Native.Nat.{◌<◌}
 use native.Mathlib.Omega.{arith}
-use lib.Ieee.{Float}
 use lib.ListN.{length-set}
-use Rattle.doubles.specs.Rounded.{◌⊕◌, ◌⊗◌}
-use Rattle.doubles.specs.Constants.{0·5, 1·0}
-use Rattle.legendre.specs.declared.Rule.{Rule}
 use Rattle.polyhedron_tetrahedra.specs.Mapped.{points, mapped_node, mapped_weight}
 use Rattle.polyhedron_tetrahedra.proofs.Nodes.{map-node, map-weight, all_nodes, all_weights, one_more}
 use Rattle.polyhedron_tetrahedra.proofs.rule.MappedRule.new.Goals as goal

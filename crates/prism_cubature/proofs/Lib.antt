@@ -1,0 +1,2 @@
+-- The rule that `gauss_legendre` gives, for the proofs here.
+mod Given
