@@ -18,7 +18,8 @@ use Rattle.lanes.specs.Lanes.{lane, Lanes}
 use Rattle.lanes.proofs.Folds.{fold_same}
 use Rattle.prism_corner_sums.specs.declared.PrismCorner.{PrismCorner}
 use Rattle.prism_corner_sums.specs.CornerSums.{coordinate, corner_logarithm, corner_angle, upper_x, upper_y, upper_z, corner_at, sign, add_corner_terms, add_corner, corner_sums}
-use Rattle.prism_corner_lanes.specs.CornerLanes.{third, offset, axes, turned, thrice, distance_at, argument, logarithm_at, angle_at, lane_corner, add_lanes}
+use Rattle.prism_corner_lanes.specs.CornerLanes.{third, offset, axes, turned, thrice, distance_at, argument, logarithm_at, angle_at, lane_corner, add_lanes, AreSeen}
+use Rattle.prism_corner_lanes.specs.declared.Corners.{Corners}
 
 -- ---- a lane
 
@@ -92,14 +93,14 @@ unfoldable turnings : Vector → Vector → Vector → Vector → Vector
 turnings x y z r =
     vector (corner_angle x.x y.x z.x r.x) (corner_angle x.y y.y z.y r.y) (corner_angle x.z y.z z.z r.z)
 
-logs_lanes : (p hi x y z r : List Float) {l : List Float} → Lanes 24 (logarithm_at p hi x y z r) l → (k : ℕ) → k < 8
-    → third l k ≡ logs (third p k) (third hi k) (third x k) (third y k) (third z k) (third r k)
+logs_lanes : (c : Corners) {l : List Float} → Lanes 24 (logarithm_at c) l → (k : ℕ) → k < 8
+    → third l k ≡ logs (third c.at k) (third c.top k) (third c.x k) (third c.y k) (third c.z k) (third c.r k)
 unfolding logs
-logs_lanes p hi x y z r w k h = vector-is (w.at k (omega arith)) (w.at (k + 8) (omega arith)) (w.at (k + 16) (omega arith))
+logs_lanes c w k h = vector-is (w.at k (omega arith)) (w.at (k + 8) (omega arith)) (w.at (k + 16) (omega arith))
 
-turnings_lanes : (x y z r : List Float) {a : List Float} → Lanes 24 (angle_at x y z r) a → (k : ℕ) → k < 8 → third a k ≡ turnings (third x k) (third y k) (third z k) (third r k)
+turnings_lanes : (c : Corners) {a : List Float} → Lanes 24 (angle_at c) a → (k : ℕ) → k < 8 → third a k ≡ turnings (third c.x k) (third c.y k) (third c.z k) (third c.r k)
 unfolding turnings
-turnings_lanes x y z r w k h = vector-is (w.at k (omega arith)) (w.at (k + 8) (omega arith)) (w.at (k + 16) (omega arith))
+turnings_lanes c w k h = vector-is (w.at k (omega arith)) (w.at (k + 8) (omega arith)) (w.at (k + 16) (omega arith))
 
 same-logs : {p p' h h' x x' y y' z z' r r' : Vector} → p ≡ p' → h ≡ h' → x ≡ x' → y ≡ y' → z ≡ z' → r ≡ r' → logs p h x y z r ≡ logs p' h' x' y' z' r'
 same-logs a b c d e f = rw (a, b, c, d, e, f)
@@ -120,53 +121,46 @@ same-away c d e = rw (c, d, e)
 
 -- ---- corner k
 
--- the lists that the lanes are taken from
-pub record Made (p lo hi : Vector) (at top x y z d r : List Float) : Type 0 where
-  pub at-is : at ≡ axes p p
-  pub top-is : top ≡ axes hi hi
-  pub x_is : x ≡ axes (offset false p lo hi) (offset true p lo hi)
-  pub y_is : y ≡ turned x
-  pub z_is : z ≡ turned y
-  pub d_is : Lanes 8 (distance_at x y z) d
-  pub r_is : r ≡ thrice d
+-- the corners of the prism from lo to hi, seen from p
+abbrev Seen : Vector → Vector → Vector → Corners → Type 0
+Seen p lo hi c = AreSeen p hi (offset false p lo hi) (offset true p lo hi) c
 
 -- its place, in turn, and its distance
-record Found (p lo hi : Vector) (at top x y z r : List Float) (k : ℕ) : Type 0 where
-  of_at : third at k ≡ p
-  of_top : third top k ≡ hi
-  of_x : third x k ≡ place p lo hi k
-  of_y : third y k ≡ turn (place p lo hi k)
-  of_z : third z k ≡ turn (turn (place p lo hi k))
-  of_r : third r k ≡ same (away (place p lo hi k) (turn (place p lo hi k)) (turn (turn (place p lo hi k))))
+record Found (p lo hi : Vector) (c : Corners) (k : ℕ) : Type 0 where
+  of_at : third c.at k ≡ p
+  of_top : third c.top k ≡ hi
+  of_x : third c.x k ≡ place p lo hi k
+  of_y : third c.y k ≡ turn (place p lo hi k)
+  of_z : third c.z k ≡ turn (turn (place p lo hi k))
+  of_r : third c.r k ≡ same (away (place p lo hi k) (turn (place p lo hi k)) (turn (turn (place p lo hi k))))
 
-found : {p lo hi : Vector} {at top x y z d r : List Float} → Made p lo hi at top x y z d r → (k : ℕ) → k < 8 → Found p lo hi at top x y z r k
-found {p} {lo} {hi} {at} {top} {x} {y} {z} {d} {r} m k h =
-    let ex : third x k ≡ place p lo hi k = ap (λ (w : List Float). third w k) m.x_is ∙ places p lo hi k h in
-    let ey : third y k ≡ turn (place p lo hi k) = ap (λ (w : List Float). third w k) m.y_is ∙ turns x k h ∙ ap turn ex in
-    let ez : third z k ≡ turn (turn (place p lo hi k)) = ap (λ (w : List Float). third w k) m.z_is ∙ turns y k h ∙ ap turn ey in
+found : (lo : Vector) {p hi : Vector} {c : Corners} → Seen p lo hi c → (k : ℕ) → k < 8 → Found p lo hi c k
+found lo {p} {hi} {c} m k h =
+    let ex : third c.x k ≡ place p lo hi k = ap (λ (w : List Float). third w k) m.x_is ∙ places p lo hi k h in
+    let ey : third c.y k ≡ turn (place p lo hi k) = ap (λ (w : List Float). third w k) m.y_is ∙ turns c.x k h ∙ ap turn ex in
+    let ez : third c.z k ≡ turn (turn (place p lo hi k)) = ap (λ (w : List Float). third w k) m.z_is ∙ turns c.y k h ∙ ap turn ey in
     record {
       of_at = ap (λ (w : List Float). third w k) m.at-is ∙ the_same p k h;
       of_top = ap (λ (w : List Float). third w k) m.top-is ∙ the_same hi k h;
       of_x = ex;
       of_y = ey;
       of_z = ez;
-      of_r = ap (λ (w : List Float). third w k) m.r_is ∙ thrice-is d k h ∙ ap same (away-is x y z m.d_is k h ∙ same-away ex ey ez);
+      of_r = ap (λ (w : List Float). third w k) m.r_is ∙ thrice-is m.distances k h ∙ ap same (away-is c.x c.y c.z m.d_is k h ∙ same-away ex ey ez);
     }
 
 parts : {u v w u' v' w' : Vector} → u ≡ u' → v ≡ v' → w ≡ w'
     → ◌≡◌ {A = PrismCorner} (record { at = u; log = v; angle = w }) (record { at = u'; log = v'; angle = w' })
 parts e f g = rw (e, f, g)
 
-pub corner-is : {p lo hi : Vector} {at top x y z d r l a : List Float} → Made p lo hi at top x y z d r → Lanes 24 (logarithm_at at top x y z r) l → Lanes 24 (angle_at x y z r) a
-    → (k : ℕ) → k < 8 → lane_corner x l a k ≡ corner_at p lo hi k
+pub corner-is : (lo : Vector) {p hi : Vector} {c : Corners} {l a : List Float} → Seen p lo hi c → Lanes 24 (logarithm_at c) l → Lanes 24 (angle_at c) a
+    → (k : ℕ) → k < 8 → lane_corner c.x l a k ≡ corner_at p lo hi k
 unfolding corner_at logs turnings away
-corner-is {at = at} {top = top} {x = x} {y = y} {z = z} {r = r} m u v k h =
-    let f = found m k h in
-    parts f.of_x (logs_lanes at top x y z r u k h ∙ same-logs f.of_at f.of_top f.of_x f.of_y f.of_z f.of_r)
-    (turnings_lanes x y z r v k h ∙ same-turnings f.of_x f.of_y f.of_z f.of_r)
+corner-is lo {c = c} m u v k h =
+    let f = found lo m k h in
+    parts f.of_x (logs_lanes c u k h ∙ same-logs f.of_at f.of_top f.of_x f.of_y f.of_z f.of_r) (turnings_lanes c v k h ∙ same-turnings f.of_x f.of_y f.of_z f.of_r)
 
-pub sums_are : {p lo hi : Vector} {at top x y z d r l a : List Float} → Made p lo hi at top x y z d r → Lanes 24 (logarithm_at at top x y z r) l → Lanes 24 (angle_at x y z r) a
-    → Fold 8 (add_lanes x l a) zero_field ≡ corner_sums p lo hi
+pub sums_are : (lo : Vector) {p hi : Vector} {c : Corners} {l a : List Float} → Seen p lo hi c → Lanes 24 (logarithm_at c) l → Lanes 24 (angle_at c) a
+    → Fold 8 (add_lanes c.x l a) zero_field ≡ corner_sums p lo hi
 unfolding corner_sums
-sums_are {p} {lo} {hi} {x = x} {l = l} {a = a} m u v =
-    fold_same 8 (add_lanes x l a) (add_corner p lo hi) zero_field (λ k h b. ap (λ (c : PrismCorner). add_corner_terms (sign k) c b) (corner-is m u v k h))
+sums_are lo {p} {hi} {c} {l} {a} m u v =
+    fold_same 8 (add_lanes c.x l a) (add_corner p lo hi) zero_field (λ k h b. ap (λ (d : PrismCorner). add_corner_terms (sign k) d b) (corner-is lo m u v k h))

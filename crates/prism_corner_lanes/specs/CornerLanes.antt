@@ -1,15 +1,16 @@
 -- The corners of a prism side by side: of corner k, what belongs to the axes x, y and z stands in a list of 24 at k, k + 8 and k + 16. Definitions only; the proofs
 -- show that the terms summed are those of `cornerSums`.
-use Rattle.std.specs.Prelude.{Bool, cond, List, [], ◌∷◌, ℕ, ◌+◌, Float}
+use Rattle.std.specs.Prelude.{◌≡◌, Bool, cond, List, [], ◌∷◌, ℕ, ◌+◌, Float}
 use Rattle.std.specs.Float.Ieee.{le}
 use Rattle.doubles.specs.Rounded.{◌⊕◌, ◌⊖◌, ◌⊗◌, ◌⊘◌}
 use Rattle.doubles.specs.Constants.{0·0}
 use Rattle.roots.specs.Root.{Root}
 use Rattle.newtonian.specs.declared.Vector.{Vector}
 use Rattle.newtonian.specs.declared.Newtonian.{Newtonian}
-use Rattle.lanes.specs.Lanes.{lane}
+use Rattle.lanes.specs.Lanes.{lane, Lanes}
 use Rattle.prism_corner_sums.specs.CornerSums.{coordinate, corner_logarithm, corner_angle, sign, add_corner_terms}
 use Rattle.prism_corner_sums.specs.declared.PrismCorner.{PrismCorner}
+use Rattle.prism_corner_lanes.specs.declared.Corners.{Corners}
 
 -- what belongs to corner k
 abbrev pub third : List Float → ℕ → Vector
@@ -51,18 +52,29 @@ distance_at x y z k = Root (lane x k ⊗ lane x k ⊕ lane y k ⊗ lane y k ⊕ 
 unfoldable pub argument : Float → Float → Float → Float → Float → Float → Float
 argument p hi x y z r = cond (le hi p) (r ⊖ x) (cond (le 0·0 x) (x ⊕ r) ((y ⊗ y ⊕ z ⊗ z) ⊘ (r ⊖ x)))
 
-abbrev pub argument_at : List Float → List Float → List Float → List Float → List Float → List Float → ℕ → Float
-argument_at p hi x y z r k = argument (lane p k) (lane hi k) (lane x k) (lane y k) (lane z k) (lane r k)
+abbrev pub argument_at : Corners → ℕ → Float
+argument_at c k = argument (lane c.at k) (lane c.top k) (lane c.x k) (lane c.y k) (lane c.z k) (lane c.r k)
 
-abbrev pub logarithm_at : List Float → List Float → List Float → List Float → List Float → List Float → ℕ → Float
-logarithm_at p hi x y z r k = corner_logarithm (lane p k) (lane hi k) (lane x k) (lane y k) (lane z k) (lane r k)
+abbrev pub logarithm_at : Corners → ℕ → Float
+logarithm_at c k = corner_logarithm (lane c.at k) (lane c.top k) (lane c.x k) (lane c.y k) (lane c.z k) (lane c.r k)
 
 -- what `cornerAngle` takes the arctangent of
-abbrev pub quotient_at : List Float → List Float → List Float → List Float → ℕ → Float
-quotient_at x y z r k = lane y k ⊗ lane z k ⊘ (lane x k ⊗ lane r k)
+abbrev pub quotient_at : Corners → ℕ → Float
+quotient_at c k = lane c.y k ⊗ lane c.z k ⊘ (lane c.x k ⊗ lane c.r k)
 
-abbrev pub angle_at : List Float → List Float → List Float → List Float → ℕ → Float
-angle_at x y z r k = corner_angle (lane x k) (lane y k) (lane z k) (lane r k)
+abbrev pub angle_at : Corners → ℕ → Float
+angle_at c k = corner_angle (lane c.x k) (lane c.y k) (lane c.z k) (lane c.r k)
+
+-- the corners seen from p, where the upper one is hi, and the lower and the upper less p are a and b
+pub record AreSeen (p hi a b : Vector) (c : Corners) : Type 0 where
+  pub at-is : c.at ≡ axes p p
+  pub top-is : c.top ≡ axes hi hi
+  pub x_is : c.x ≡ axes a b
+  pub y_is : c.y ≡ turned c.x
+  pub z_is : c.z ≡ turned c.y
+  pub distances : List Float
+  pub d_is : Lanes 8 (distance_at c.x c.y c.z) distances
+  pub r_is : c.r ≡ thrice distances
 
 abbrev pub lane_corner : List Float → List Float → List Float → ℕ → PrismCorner
 lane_corner x l a k = record { at = third x k; log = third l k; angle = third a k }

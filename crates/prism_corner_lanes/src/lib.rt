@@ -1,5 +1,6 @@
 // The corner sums of a prism, with the logarithms and the angles of all corners side by side. Of corner k, what belongs to the axes x, y
-// and z stands at k, 8 + k and 16 + k.
+// and z stands at k, 8 + k and 16 + k. A loop over lanes walks several arrays in step, by an index: of one body over fixed arrays the
+// compiler makes packed instructions, and a chain of zipped iterators would be no plainer.
 #![tactic(auto)]
 
 ghost use Rattle.std.specs.Prelude.{◌≡◌, true, ◌<◌};
@@ -7,7 +8,7 @@ ghost use Rattle.newtonian.specs.Fold.{Fold};
 ghost use Rattle.newtonian.specs.Vectors.{zero_field};
 ghost use Rattle.lanes.specs.Lanes.{Lanes};
 ghost use Rattle.prism_corner_sums.specs.CornerSums.{corner_sums};
-ghost use Rattle.prism_corner_lanes.specs.CornerLanes.{offset, axes, turned, thrice, distance_at, argument, argument_at, logarithm_at, quotient_at, angle_at, third, add_lanes};
+ghost use Rattle.prism_corner_lanes.specs.CornerLanes.{offset, axes, turned, thrice, distance_at, argument, argument_at, logarithm_at, quotient_at, angle_at, third, add_lanes, AreSeen};
 
 use lanes::pick;
 use newtonian::{Newtonian, Vector};
@@ -85,62 +86,87 @@ fn argument(p: f64, hi: f64, x: f64, y: f64, z: f64, r: f64) -> f64
     pick(p >= hi, d, pick(x >= 0.0, x + r, (y * y + z * z) / d))
 }
 
-fn arguments(
-    p: &[f64; 24],
-    hi: &[f64; 24],
-    x: &[f64; 24],
-    y: &[f64; 24],
-    z: &[f64; 24],
-    r: &[f64; 24],
-    v: &mut [f64; 24],
-)
-    ensures { Lanes 24 (argument_at p.now hi.now x.now y.now z.now r.now) v.new }
-{
-    for k in 0..24 {
-        v[k] = argument(p[k], hi[k], x[k], y[k], z[k], r[k]);
-    }
+// The corners, each for each axis: at and top are the station's coordinate and the upper corner's, x is the corner's less the station's, y
+// and z are those on the two axes that follow in turn, and r is the corner's distance.
+#[derive(Drop)]
+struct Corners {
+    at: [f64; 24],
+    top: [f64; 24],
+    x: [f64; 24],
+    y: [f64; 24],
+    z: [f64; 24],
+    r: [f64; 24],
 }
 
-// The logarithms, where the answer is yes. It is no where one is taken of a number that is not normal or not above zero.
-fn logarithms(
-    p: &[f64; 24],
-    hi: &[f64; 24],
-    x: &[f64; 24],
-    y: &[f64; 24],
-    z: &[f64; 24],
-    r: &[f64; 24],
-    l: &mut [f64; 24],
-) -> bool
-    ensures { result ≡ true → Lanes 24 (logarithm_at p.now hi.now x.now y.now z.now r.now) l.new }
-{
-    let mut v = [0.0; 24];
-    let mut w = [0.0; 24];
-    arguments(p, hi, x, y, z, r, &mut v);
-    let good = lanes_ln::ln(&v, &mut w);
-    for k in 0..24 {
-        let wk = w[k];
-        l[k] = pick(p[k] >= hi[k], -wk, wk);
+impl Corners {
+    // Seen from p, of the prism whose upper corner is hi and whose corners less p are lower and upper.
+    fn new(p: Vector, hi: Vector, lower: Vector, upper: Vector) -> Corners
+        ensures { AreSeen p hi lower upper result }
+    {
+        let x = axes(lower, upper);
+        let y = turned(x);
+        let z = turned(y);
+        let mut d = [0.0; 8];
+        distances(&x, &y, &z, &mut d);
+        Corners {
+            at: axes(p, p),
+            top: axes(hi, hi),
+            x,
+            y,
+            z,
+            r: thrice(d),
+        }
     }
-    good
-}
 
-fn quotients(x: &[f64; 24], y: &[f64; 24], z: &[f64; 24], r: &[f64; 24], q: &mut [f64; 24])
-    ensures { Lanes 24 (quotient_at x.now y.now z.now r.now) q.new }
-{
-    for k in 0..24 {
-        q[k] = y[k] * z[k] / (x[k] * r[k]);
+    fn arguments(&self, v: &mut [f64; 24])
+        ensures { Lanes 24 (argument_at self.now) v.new }
+    {
+        for k in 0..24 {
+            v[k] = argument(
+                self.at[k],
+                self.top[k],
+                self.x[k],
+                self.y[k],
+                self.z[k],
+                self.r[k],
+            );
+        }
     }
-}
 
-fn angles(x: &[f64; 24], y: &[f64; 24], z: &[f64; 24], r: &[f64; 24], a: &mut [f64; 24])
-    ensures { Lanes 24 (angle_at x.now y.now z.now r.now) a.new }
-{
-    let mut q = [0.0; 24];
-    let mut t = [0.0; 24];
-    quotients(x, y, z, r, &mut q);
-    lanes_atan::atan(&q, &mut t);
-    for k in 0..24 {
-        a[k] = pick(y[k] * z[k] == 0.0, 0.0, t[k]);
+    // The logarithms, where the answer is yes. It is no where one is taken of a number that is not normal or not above zero. The array
+    // is lent, and no Option of it returned, so that no lane is copied.
+    fn logarithms(&self, l: &mut [f64; 24]) -> bool
+        ensures { result ≡ true → Lanes 24 (logarithm_at self.now) l.new }
+    {
+        let mut v = [0.0; 24];
+        let mut w = [0.0; 24];
+        self.arguments(&mut v);
+        let good = lanes_ln::ln(&v, &mut w);
+        for k in 0..24 {
+            let wk = w[k];
+            l[k] = pick(self.at[k] >= self.top[k], -wk, wk);
+        }
+        good
+    }
+
+    fn quotients(&self, q: &mut [f64; 24])
+        ensures { Lanes 24 (quotient_at self.now) q.new }
+    {
+        for k in 0..24 {
+            q[k] = self.y[k] * self.z[k] / (self.x[k] * self.r[k]);
+        }
+    }
+
+    fn angles(&self, a: &mut [f64; 24])
+        ensures { Lanes 24 (angle_at self.now) a.new }
+    {
+        let mut q = [0.0; 24];
+        let mut t = [0.0; 24];
+        self.quotients(&mut q);
+        lanes_atan::atan(&q, &mut t);
+        for k in 0..24 {
+            a[k] = pick(self.y[k] * self.z[k] == 0.0, 0.0, t[k]);
+        }
     }
 }
 
@@ -181,19 +207,12 @@ pub fn corner_sums(p: Vector, lo: Vector, hi: Vector) -> Newtonian
     if on_edge_line(lower, upper) {
         return prism_corner_sums::corner_sums(p, lo, hi);
     }
-    let x = axes(lower, upper);
-    let y = turned(x);
-    let z = turned(y);
-    let mut d = [0.0; 8];
-    distances(&x, &y, &z, &mut d);
-    let r = thrice(d);
-    let at = axes(p, p);
-    let top = axes(hi, hi);
+    let c = Corners::new(p, hi, lower, upper);
     let mut l = [0.0; 24];
-    if logarithms(&at, &top, &x, &y, &z, &r, &mut l) {
+    if c.logarithms(&mut l) {
         let mut a = [0.0; 24];
-        angles(&x, &y, &z, &r, &mut a);
-        return sum(&x, &l, &a);
+        c.angles(&mut a);
+        return sum(&c.x, &l, &a);
     }
     prism_corner_sums::corner_sums(p, lo, hi)
 }

@@ -1,8 +1,8 @@
--- `prism_corner_lanes::angles` meets its contract. Assumes nothing.
+-- `prism_corner_lanes::Corners::angles` meets its contract. Assumes nothing.
 use mathlib.Core.Path.{◌∙◌}
 use Rattle.lanes.proofs.Filling.{one-filled, all-filled}
 use Rattle.prism_corner_lanes.proofs.CornersMade.{angle-from}
-use Rattle.prism_corner_lanes.proofs.angles.Goals as goal
+use Rattle.prism_corner_lanes.proofs.Corners.angles.Goals as goal
 
 pub loop-k-preserved : goal.loop-k-preserved
 loop-k-preserved c = one-filled c.loop-k.invariant c.loop-k-test.true c.pick.ensures

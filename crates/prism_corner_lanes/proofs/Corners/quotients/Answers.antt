@@ -1,7 +1,7 @@
--- `prism_corner_lanes::quotients` meets its contract. Assumes nothing.
+-- `prism_corner_lanes::Corners::quotients` meets its contract. Assumes nothing.
 use mathlib.Core.Path.{refl}
 use Rattle.lanes.proofs.Filling.{one-filled, all-filled}
-use Rattle.prism_corner_lanes.proofs.quotients.Goals as goal
+use Rattle.prism_corner_lanes.proofs.Corners.quotients.Goals as goal
 
 pub loop-k-preserved : goal.loop-k-preserved
 loop-k-preserved c = one-filled c.loop-k.invariant c.loop-k-test.true refl
