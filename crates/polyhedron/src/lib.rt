@@ -16,7 +16,7 @@ use refusals::{Cause, Refusal};
 const POLYHEDRON_FAR: f64 = 5.0;
 
 // Whether the tetrahedra take over at p, for the centroid c and the radius r.
-fn is_far(p: Vector, c: Vector, r: f64) -> bool
+pub fn is_far(p: Vector, c: Vector, r: f64) -> bool
     ensures { result ≡ is_far p c r }
 {
     roots::root(polyhedron_centroid::squared_distance(p, c)) > POLYHEDRON_FAR * r

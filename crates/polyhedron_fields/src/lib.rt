@@ -13,12 +13,12 @@ ghost use Rattle.polyhedron.specs.Polyhedron.{polyhedron_from};
 ghost use Rattle.polyhedron_fields.specs.BlockFields.{BlockFields};
 ghost use Rattle.polyhedron_fields.specs.Walked.{is_near, far_sums, Walked};
 
-use newtonian::{FIELD_SIZE, Field, Vector};
+use newtonian::{Field, Vector};
 use polyhedron_blocks::STATIONS;
 use polyhedron_edge_face_sums::Running;
+use polyhedron_far::Block;
 use polyhedron_group::FEWEST;
-use polyhedron_neumaier::Pair;
-use polyhedron_on_edge::BLOCK;
+use polyhedron_neumaier::Sums;
 use refusals::Refusal;
 
 // ---- before the walk over the faces
@@ -35,49 +35,34 @@ pub fn places_of(stations: &[f64], first: usize, n: usize) -> [Vector; STATIONS]
     }; STATIONS];
     for j in 0..n {
         // A station is three coordinates, as a vertex is.
-        let p = mesh::surface::vertex(stations, (first + j) as u32);
-        out[j] = p;
+        out[j] = mesh::surface::vertex(stations, (first + j) as u32);
     }
     out
 }
 
-// Whether the station at p is near the body with the centroid c and the radius r.
-fn is_near(p: Vector, c: Vector, r: f64) -> bool
-    ensures { result ≡ is_near p c r }
-{
-    !(roots::root(polyhedron_centroid::squared_distance(p, c)) > 5.0 * r)
-}
-
 // Which of the first n stations of a block are near; rest for those past them.
-fn near_of(places: [Vector; STATIONS], n: usize, rest: bool, c: Vector, r: f64) -> [bool; STATIONS]
+fn near_of(places: &[Vector; STATIONS], n: usize, rest: bool, c: Vector, r: f64) -> [bool; STATIONS]
     requires { n ≤ block_size }
-    ensures { (j : ℕ) → j < n → get_or result j false ≡ is_near (get_or places j no_vector) c r }
+    ensures { (j : ℕ) → j < n → get_or result j false ≡ is_near (get_or places.now j no_vector) c r }
 {
     let mut out = [rest; STATIONS];
     for j in 0..n {
-        let b = is_near(places[j], c, r);
-        out[j] = b;
+        out[j] = !polyhedron::is_far(places[j], c, r);
     }
     out
 }
 
 // ---- after it
 
-// The field at the station of number i, of which all faces are added: run and dyads are those of a near station, sums those of a far one.
-fn station_field(
-    i: u32,
-    near: bool,
-    run: Running,
-    dyads: &[f64; BLOCK],
-    sums: [Pair; FIELD_SIZE],
-) -> Field
-    ensures { (p c : Vector) (r : Float) (v : List Float) (f : List ℕ) (keys : List ℕ) → near ≡ is_near p c r →
-        (near ≡ true → Carries (sums_of p v f) keys dyads.now run) → (near ≡ false → sums ≡ far_sums p c v f) → answer_of result ≡ polyhedron_from i p c r v f }
+// The field at the station of number i, of which all faces are added: run is that of a near station, sums are those of a far one.
+fn station_field(i: u32, near: bool, run: &Running, sums: &Sums) -> Field
+    ensures { (p c : Vector) (r : Float) (v : List Float) (f : List ℕ) → near ≡ is_near p c r →
+        (near ≡ true → Carries (sums_of p v f) run.now) → (near ≡ false → sums.now.pairs ≡ far_sums p c v f) → answer_of result ≡ polyhedron_from i p c r v f }
 {
     if near {
-        return polyhedron_edge_face_sums::near_field(i, run, dyads);
+        return run.near_field(i);
     }
-    Field::At(polyhedron_neumaier::totals(sums))
+    Field::At(sums.total())
 }
 
 // A list of fields before any is known.
@@ -92,20 +77,17 @@ pub fn no_fields() -> [Field; STATIONS]
 fn answers(
     first: usize,
     n: usize,
-    runs: [Running; STATIONS],
-    dyads: &[[f64; BLOCK]; STATIONS],
-    sums: [[Pair; FIELD_SIZE]; STATIONS],
-    near: [bool; STATIONS],
+    block: &Block,
+    runs: &[Running; STATIONS],
+    sums: &[Sums; STATIONS],
 ) -> [Field; STATIONS]
     requires { (n ≤ block_size) × (first + n ≤ 2³²) }
-    ensures { (places : List Vector) (c : Vector) (r : Float) (v : List Float) (f : List ℕ) (keys : List (List ℕ)) →
-        Walked n c r v f near places keys dyads.now runs sums → BlockFields first n places c r v f result }
+    ensures { (c : Vector) (r : Float) (v : List Float) (f : List ℕ) →
+        Walked n c r v f block.now runs.now sums.now → BlockFields first n block.now.places c r v f result }
 {
     let mut out = no_fields();
     for j in 0..n {
-        let d = &dyads[j];
-        let a = station_field((first + j) as u32, near[j], runs[j], d, sums[j]);
-        out[j] = a;
+        out[j] = station_field((first + j) as u32, block.near[j], &runs[j], &sums[j]);
     }
     out
 }
@@ -125,29 +107,24 @@ fn walked(
     requires { Body verts.now faces.now × (n ≤ block_size) × (first + n ≤ 2³²) }
     ensures { BlockFields first n places c r verts.now faces.now result }
 {
-    let mut keys = polyhedron_blocks::key_room();
-    let mut dyads = polyhedron_blocks::dyad_room();
-    let near = near_of(places, n, false, c, r);
+    let block = Block {
+        places,
+        near: near_of(&places, n, false, c, r),
+    };
     // Past the last station of a short block there is none, neither near nor far.
-    let not_far = near_of(places, n, true, c, r);
-    let mut runs = [Running {
-        field: newtonian::zero_field(),
-        count: 0,
-    }; STATIONS];
+    let not_far = Block {
+        places,
+        near: near_of(&places, n, true, c, r),
+    };
+    let mut runs = polyhedron_blocks::no_runs();
     let mut sums = polyhedron_far::no_far_sums();
     let total = faces.len() / 3;
-    let mut k = 0;
-    while k < total {
-        let m = polyhedron_group::fewer(8, total - k);
-        let nearer = polyhedron_walk::add_near_faces(
-            &mut keys, &mut dyads, runs, near, places, verts, faces, k, m,
-        );
-        runs = nearer;
-        let farther = polyhedron_far::add_far_faces(not_far, places, c, verts, faces, k, m, sums);
-        sums = farther;
-        k += m;
+    for k in (0..total).step_by(8) {
+        let m = (total - k).min(8);
+        polyhedron_walk::add_near_faces(&mut runs, &block, verts, faces, k, m);
+        not_far.add_far_faces(c, verts, faces, k, m, &mut sums);
     }
-    answers(first, n, runs, &dyads, sums, near)
+    answers(first, n, &block, &runs, &sums)
 }
 
 // Station by station.
@@ -165,8 +142,7 @@ fn one_by_one(
 {
     let mut out = no_fields();
     for j in 0..n {
-        let a = polyhedron::polyhedron_at((first + j) as u32, places[j], c, r, verts, faces);
-        out[j] = a;
+        out[j] = polyhedron::polyhedron_at((first + j) as u32, places[j], c, r, verts, faces);
     }
     out
 }

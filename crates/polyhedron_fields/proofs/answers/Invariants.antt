@@ -15,8 +15,8 @@ use Rattle.polyhedron_fields.proofs.answers.Given as goal
 abbrev pub invariant-loop-j : goal.invariant-loop-j
 invariant-loop-j l =
     (l.j ≤ l.n) × (length l.out ≡ block_size)
-    × ((places : List Vector) (c : Vector) (r : Float) (v : List Float) (f : List ℕ) (keys : List (List ℕ)) → Walked l.n c r v f l.near places keys l.dyads l.runs l.sums
-    → (i : ℕ) → i < l.j → answer_of (get_or l.out i no_field) ≡ polyhedron_from (l.first + i) (get_or places i no_vector) c r v f)
+    × ((c : Vector) (r : Float) (v : List Float) (f : List ℕ) → Walked l.n c r v f l.block l.runs l.sums
+    → (i : ℕ) → i < l.j → answer_of (get_or l.out i no_field) ≡ polyhedron_from (l.first + i) (get_or l.block.places i no_vector) c r v f)
 
 abbrev pub decreases-loop-j : goal.decreases-loop-j
 decreases-loop-j l = l.n - l.j

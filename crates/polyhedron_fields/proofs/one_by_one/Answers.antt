@@ -1,6 +1,6 @@
 -- `polyhedron_fields::one_by_one` meets its contract: before turn j the fields of j stations are in their places. Assumes nothing.
 use mathlib.Core.Path.{◌≡◌, ◌∙◌}
-use Prim.Native.Nat.{ℕ, ◌+◌, ◌-◌}
+use Prim.Native.Nat.{ℕ, ◌+◌}
 use native.Mathlib.Omega.{arith}
 use lib.ListN.{get_or, length-set}
 use Rattle.newtonian.specs.Field.{answer_of}
@@ -18,11 +18,11 @@ pub loop-j-preserved : goal.loop-j-preserved
 loop-j-preserved c =
     let l = c.loop-j in
     let a = c.args in
-    let e = length-set l.out l.j c.polyhedron_at-a.result ∙ l.invariant.1 in (
+    let e = length-set l.out l.j c.polyhedron_at.result ∙ l.invariant.1 in (
       omega (arith, c.loop-j-test.true),
       e,
       one_placed no_field (λ (i : ℕ) (q : Field). answer_of q ≡ polyhedron_from (a.first + i) (get_or a.places i no_vector) a.c a.r a.verts.now a.faces.now) l.j l.out
-          c.polyhedron_at-a.result (omega (arith, l.invariant.1, c.loop-j-test.true, c.requires.1)) l.invariant.2 c.polyhedron_at-a.ensures,
+          c.polyhedron_at.result (omega (arith, l.invariant.1, c.loop-j-test.true, c.requires.1)) l.invariant.2 c.polyhedron_at.ensures,
     )
 
 pub returns : goal.returns

@@ -16,13 +16,13 @@ far false e = cc
 pub returns-then-near : goal.returns-then-near
 unfolding polyhedron_from
 returns-then-near c =
-    λ p q r v f keys n h g.
+    λ p q r v f n h g.
     let e = not-far (is_far p q r) (sym c.if-near.true ∙ n) in
-    simp e (c.near_field.ensures p v f keys (h c.if-near.true))
+    simp e (c.near_field.ensures p v f (h c.if-near.true))
 
 pub returns : goal.returns
 unfolding polyhedron_from tetrahedra
 returns c =
-    λ p q r v f keys n h g.
+    λ p q r v f n h g.
     let e = far (is_far p q r) (sym c.if-near.false ∙ n) in
-    simp (e, c.totals.ensures, g c.if-near.false)
+    simp (e, c.total.ensures, g c.if-near.false)
