@@ -17,5 +17,5 @@ loop-i-preserved c =
     let s = c.args.sheet.now in
     let h = c.loop-i.h in (
       ap (λ (z : Bor (List ℕ)). z.now) c.next-h.ensures.0 ∙ c.loop-i.invariant.0,
-      c.next-h.ensures.1 ∙ moved s h.sheet.now h.at c.loop-i.i c.loop-i.invariant.0 c.loop-i.invariant.1,
+      c.next-h.ensures.1 ∙ moved s h.sheet.now h.at c.loop-i._i c.loop-i.invariant.0 c.loop-i.invariant.1,
     )
