@@ -57,7 +57,12 @@ fn indices_cause(sheet: &[u8], verts: &[f64], faces: &[u32], order: &[u32]) -> C
     if let Cause::Refused(r) = missing {
         return Cause::Refused(r);
     }
-    wrong_lists(faces, order, sheet, VERTEX_LENGTH * v + 2 * CORNERS_LENGTH * f)
+    wrong_lists(
+        faces,
+        order,
+        sheet,
+        VERTEX_LENGTH * v + 2 * CORNERS_LENGTH * f,
+    )
 }
 
 // Reads the lists, and tries the causes 3, 4, 17 and 18.

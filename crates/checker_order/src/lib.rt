@@ -67,7 +67,14 @@ fn is_paired(faces: &[u32], sheet: &[u8], at: usize, i: usize) -> bool
 {
     let place = at + 4 * i;
     points_back(faces, sheet, at, i, u32_at(sheet, place), faces[i + 1])
-        && points_back(faces, sheet, at, i + 1, u32_at(sheet, place + 4), faces[i + 2])
+        && points_back(
+            faces,
+            sheet,
+            at,
+            i + 1,
+            u32_at(sheet, place + 4),
+            faces[i + 2],
+        )
         && points_back(faces, sheet, at, i + 2, u32_at(sheet, place + 8), faces[i])
 }
 

@@ -32,15 +32,7 @@ pub fn put_front(source: &Source, order: &[u32], out: &mut [u8])
 // ---- after the rows
 
 // Writes the trailer of v vertices, f faces and n stations from place at on, which is what its pointer holds.
-fn put_trailer(
-    source: &Source,
-    v: u32,
-    f: u32,
-    n: u32,
-    volume: f64,
-    out: &mut [u8],
-    at: usize,
-)
+fn put_trailer(source: &Source, v: u32, f: u32, n: u32, volume: f64, out: &mut [u8], at: usize)
     requires { at + trailer_length ≤ length out.old }
     ensures { let s = source_input source.now in out.new ≡ sets out.old at (joined (trailer_parts s.kind v f n s.magnetisation s.ambient volume at)) }
 {
@@ -54,15 +46,7 @@ fn put_trailer(
 }
 
 // Ends the sheet that all of out holds: writes its trailer, or zeros over all of it where a row was refused.
-pub fn put_end(
-    cause: Cause,
-    source: &Source,
-    v: u32,
-    f: u32,
-    n: u32,
-    volume: f64,
-    out: &mut [u8],
-)
+pub fn put_end(cause: Cause, source: &Source, v: u32, f: u32, n: u32, volume: f64, out: &mut [u8])
     requires { trailer_length ≤ length out.old }
     ensures { let s = source_input source.now in
         out.new ≡ finished cause (trailer_parts s.kind v f n s.magnetisation s.ambient volume (length out.old - trailer_length)) out.old }

@@ -70,7 +70,15 @@ pub fn put_rows(source: &Source, c: Center, out: &mut [u8], at: usize) -> Cause
     for first in (0..total).step_by(STATIONS) {
         let n = STATIONS.min(total - first);
         let places = polyhedron_fields::places_of(source.stations, first, n);
-        let fields = sheet_rows::fields_at(source.kind, first, n, places, c, source.verts, source.faces);
+        let fields = sheet_rows::fields_at(
+            source.kind,
+            first,
+            n,
+            places,
+            c,
+            source.verts,
+            source.faces,
+        );
         let cause = put_block(source, first, n, fields, out, at);
         if let Cause::Refused(r) = cause {
             return Cause::Refused(r);

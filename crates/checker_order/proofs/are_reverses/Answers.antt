@@ -16,12 +16,12 @@ returns-then-has_edge-2 c =
     let f : List ℕ = a.faces.now in
     let within : (a.i % 3 ≡ 0) × (a.i + 2 < length f) = (c.requires.1, omega (arith, c.requires.0, c.requires.1, c.requires.2)) in
     elim c.if-has_edge.branch [
-      then-has_edge w ↦
-        c.has_edge-then-has_edge-2.ensures ∙ third b a.at f a.i within.0 within.1 _ c.u32_at-then-has_edge-2.ensures
-        ∙ up_to-third f (mates_standing b a.at f) a.i
-        (sym (first b a.at f a.i within.0 within.1 _ c.u32_at.ensures) ∙ sym c.has_edge.ensures ∙ w.if-has_edge.true)
-        (sym (second b a.at f a.i within.0 within.1 _ w.u32_at-then-has_edge.ensures) ∙ sym w.has_edge-then-has_edge.ensures ∙ sym w.value-is ∙ c.if-has_edge-2.true)
-    | else-has_edge w ↦ absurd (true≢false (sym c.if-has_edge-2.true ∙ w.value-is ∙ w.if-has_edge.false))
+      | then-has_edge w ↦
+          c.has_edge-then-has_edge-2.ensures ∙ third b a.at f a.i within.0 within.1 _ c.u32_at-then-has_edge-2.ensures
+          ∙ up_to-third f (mates_standing b a.at f) a.i
+          (sym (first b a.at f a.i within.0 within.1 _ c.u32_at.ensures) ∙ sym c.has_edge.ensures ∙ w.if-has_edge.true)
+          (sym (second b a.at f a.i within.0 within.1 _ w.u32_at-then-has_edge.ensures) ∙ sym w.has_edge-then-has_edge.ensures ∙ sym w.value-is ∙ c.if-has_edge-2.true)
+      | else-has_edge w ↦ absurd (true≢false (sym c.if-has_edge-2.true ∙ w.value-is ∙ w.if-has_edge.false))
     ]
 
 pub returns-else-has_edge-2 : goal.returns-else-has_edge-2
@@ -31,12 +31,12 @@ returns-else-has_edge-2 c =
     let f : List ℕ = a.faces.now in
     let within : (a.i % 3 ≡ 0) × (a.i + 2 < length f) = (c.requires.1, omega (arith, c.requires.0, c.requires.1, c.requires.2)) in
     elim c.if-has_edge.branch [
-      then-has_edge w ↦
-        c.if-has_edge-2.false
-        ∙ not-second f (mates_standing b a.at f) a.i
-        (sym (first b a.at f a.i within.0 within.1 _ c.u32_at.ensures) ∙ sym c.has_edge.ensures ∙ w.if-has_edge.true)
-        (sym (second b a.at f a.i within.0 within.1 _ w.u32_at-then-has_edge.ensures) ∙ sym w.has_edge-then-has_edge.ensures ∙ sym w.value-is ∙ c.if-has_edge-2.false)
-    | else-has_edge w ↦
-        c.if-has_edge-2.false
-        ∙ not_first f (mates_standing b a.at f) a.i (sym (first b a.at f a.i within.0 within.1 _ c.u32_at.ensures) ∙ sym c.has_edge.ensures ∙ w.if-has_edge.false)
+      | then-has_edge w ↦
+          c.if-has_edge-2.false
+          ∙ not-second f (mates_standing b a.at f) a.i
+          (sym (first b a.at f a.i within.0 within.1 _ c.u32_at.ensures) ∙ sym c.has_edge.ensures ∙ w.if-has_edge.true)
+          (sym (second b a.at f a.i within.0 within.1 _ w.u32_at-then-has_edge.ensures) ∙ sym w.has_edge-then-has_edge.ensures ∙ sym w.value-is ∙ c.if-has_edge-2.false)
+      | else-has_edge w ↦
+          c.if-has_edge-2.false
+          ∙ not_first f (mates_standing b a.at f) a.i (sym (first b a.at f a.i within.0 within.1 _ c.u32_at.ensures) ∙ sym c.has_edge.ensures ∙ w.if-has_edge.false)
     ]
