@@ -11,6 +11,7 @@ use checker_order::wrong_lists;
 use mesh::scan::no_such_vertex;
 use newtonian::vector_within_limits;
 use refusals::{Cause, Refusal};
+use sheet::{CORNERS_LENGTH, VERTEX_LENGTH};
 use sheet_layout::{read_f64s, read_u32s};
 use sheet_readers::vector_at;
 
@@ -21,8 +22,8 @@ fn read_lists(sheet: &[u8], verts: &mut [f64], faces: &mut [u32], order: &mut [u
     let v = sheet_readers::vertices(sheet) as usize;
     let f = sheet_readers::faces(sheet) as usize;
     read_f64s(sheet, 0, verts);
-    read_u32s(sheet, 24 * v, faces);
-    read_u32s(sheet, 24 * v + 12 * f, order);
+    read_u32s(sheet, VERTEX_LENGTH * v, faces);
+    read_u32s(sheet, VERTEX_LENGTH * v + CORNERS_LENGTH * f, order);
 }
 
 // Cause 3.
@@ -56,7 +57,12 @@ fn indices_cause(sheet: &[u8], verts: &[f64], faces: &[u32], order: &[u32]) -> C
     if let Cause::Refused(r) = missing {
         return Cause::Refused(r);
     }
-    wrong_lists(faces, order, sheet, 24 * v + 24 * f)
+    wrong_lists(
+        faces,
+        order,
+        sheet,
+        VERTEX_LENGTH * v + 2 * CORNERS_LENGTH * f,
+    )
 }
 
 // Reads the lists, and tries the causes 3, 4, 17 and 18.

@@ -17,10 +17,7 @@ use sheet_layout::u32_at;
 fn is_above(i: usize, last: u64, e: u64) -> bool
     ensures { result ≡ (eqb i 0 || ltb last e) }
 {
-    if i == 0 {
-        return true;
-    }
-    last < e
+    i == 0 || last < e
 }
 
 // The edge of use u. Where the mates are paired the mate of u leaves the vertex that u reaches, and no division by 3 is needed to find it.
@@ -40,19 +37,16 @@ fn wrong_order(faces: &[u32], order: &[u32], sheet: &[u8], at: usize, paired: bo
     requires { Listed faces.now order.now sheet.now at × (paired ≡ true → Paired faces.now (unpack 4 (length faces.now) sheet.now at)) }
     ensures { result ≡ wrong_order faces.now order.now }
 {
-    let mut i = 0;
     let mut last = 0;
-    while i < order.len() {
-        let u = order[i];
-        if faces.len() <= u as usize {
+    for (i, u) in order.iter().enumerate() {
+        if faces.len() <= *u as usize {
             return Cause::Refused(Refusal::WrongOrder);
         }
-        let e = edge_of(faces, sheet, at, paired, u);
+        let e = edge_of(faces, sheet, at, paired, *u);
         if !is_above(i, last, e) {
             return Cause::Refused(Refusal::WrongOrder);
         }
         last = e;
-        i += 1;
     }
     Cause::None
 }
@@ -63,13 +57,7 @@ fn points_back(faces: &[u32], sheet: &[u8], at: usize, u: usize, w: u32, x: u32)
     ensures { result ≡ true → (w < length faces.now) × (get_or faces.now w 0 ≡ x) × (number 4 sheet.now (at + 4 * w) ≡ u) }
 {
     let k = w as usize;
-    if faces.len() <= k {
-        return false;
-    }
-    if faces[k] != x {
-        return false;
-    }
-    u32_at(sheet, at + 4 * k) as usize == u
+    k < faces.len() && faces[k] == x && u32_at(sheet, at + 4 * k) as usize == u
 }
 
 // Whether the mates of the three edge uses of a face, of which i is the first, are paired.
@@ -78,32 +66,26 @@ fn is_paired(faces: &[u32], sheet: &[u8], at: usize, i: usize) -> bool
     ensures { result ≡ true → PairedFace faces.now (unpack 4 (length faces.now) sheet.now at) i }
 {
     let place = at + 4 * i;
-    if !points_back(faces, sheet, at, i, u32_at(sheet, place), faces[i + 1]) {
-        return false;
-    }
-    if !points_back(
-        faces,
-        sheet,
-        at,
-        i + 1,
-        u32_at(sheet, place + 4),
-        faces[i + 2],
-    ) {
-        return false;
-    }
-    points_back(faces, sheet, at, i + 2, u32_at(sheet, place + 8), faces[i])
+    points_back(faces, sheet, at, i, u32_at(sheet, place), faces[i + 1])
+        && points_back(
+            faces,
+            sheet,
+            at,
+            i + 1,
+            u32_at(sheet, place + 4),
+            faces[i + 2],
+        )
+        && points_back(faces, sheet, at, i + 2, u32_at(sheet, place + 8), faces[i])
 }
 
 fn all_paired(faces: &[u32], sheet: &[u8], at: usize) -> bool
     requires { (length faces.now % 3 ≡ 0) × (length faces.now ≤ 3 * max_faces) × (at + 4 * length faces.now ≤ length sheet.now) }
     ensures { result ≡ true → Paired faces.now (unpack 4 (length faces.now) sheet.now at) }
 {
-    let mut i = 0;
-    while i < faces.len() {
+    for i in (0..faces.len()).step_by(3) {
         if !is_paired(faces, sheet, at, i) {
             return false;
         }
-        i += 3;
     }
     true
 }
@@ -113,10 +95,7 @@ fn has_edge(faces: &[u32], w: u32, from: u32, to: u32) -> bool
     requires { length faces.now % 3 ≡ 0 }
     ensures { result ≡ (ltb w (length faces.now) && eqb (edge faces.now w) (edge_number from to)) }
 {
-    if faces.len() <= w as usize {
-        return false;
-    }
-    edge(faces, w) == number(from, to)
+    (w as usize) < faces.len() && edge(faces, w) == number(from, to)
 }
 
 // Whether the mates of the three edge uses of a face, of which i is the first, are reverses.
@@ -128,13 +107,9 @@ fn are_reverses(faces: &[u32], sheet: &[u8], at: usize, i: usize) -> bool
     let b = faces[i + 1];
     let c = faces[i + 2];
     let place = at + 4 * i;
-    if !has_edge(faces, u32_at(sheet, place), b, a) {
-        return false;
-    }
-    if !has_edge(faces, u32_at(sheet, place + 4), c, b) {
-        return false;
-    }
-    has_edge(faces, u32_at(sheet, place + 8), a, c)
+    has_edge(faces, u32_at(sheet, place), b, a)
+        && has_edge(faces, u32_at(sheet, place + 4), c, b)
+        && has_edge(faces, u32_at(sheet, place + 8), a, c)
 }
 
 // Cause 18: a mate, of those from place at on, that is no edge use, or not the reverse.
@@ -142,12 +117,10 @@ fn wrong_mate(faces: &[u32], sheet: &[u8], at: usize) -> Cause
     requires { (length faces.now % 3 ≡ 0) × (length faces.now ≤ 3 * max_faces) × (at + 4 * length faces.now ≤ length sheet.now) }
     ensures { result ≡ wrong_mate faces.now (unpack 4 (length faces.now) sheet.now at) }
 {
-    let mut i = 0;
-    while i < faces.len() {
+    for i in (0..faces.len()).step_by(3) {
         if !are_reverses(faces, sheet, at, i) {
             return Cause::Refused(Refusal::WrongMate);
         }
-        i += 3;
     }
     Cause::None
 }

@@ -18,12 +18,10 @@ pub fn out_of_limits_at(sheet: &[u8], at: usize, n: usize) -> Cause
     requires { at + 8 * n ≤ length sheet.now }
     ensures { result ≡ out_of_limits (doubles (unpack 8 n sheet.now at)) }
 {
-    let mut i = 0;
-    while i < n {
+    for i in 0..n {
         if !within_limits(f64_at(sheet, at + 8 * i)) {
             return Cause::Refused(Refusal::OutOfLimits);
         }
-        i += 1;
     }
     Cause::None
 }
@@ -33,12 +31,10 @@ fn same_numbers(sheet: &[u8], at: usize, xs: &[f64]) -> bool
     requires { at + 8 * length xs.now ≤ length sheet.now }
     ensures { result ≡ same_numbers (unpack 8 (length xs.now) sheet.now at) (bits xs.now) }
 {
-    let mut i = 0;
-    while i < xs.len() {
-        if u64_at(sheet, at + 8 * i) != to_bits(xs[i]) {
+    for (i, x) in xs.iter().enumerate() {
+        if u64_at(sheet, at + 8 * i) != to_bits(*x) {
             return false;
         }
-        i += 1;
     }
     true
 }

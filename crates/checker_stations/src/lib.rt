@@ -18,7 +18,7 @@ ghost use Rattle.checker_stations.specs.Outcome.{refused_by, stations_outcome};
 use newtonian::{Field, Vector};
 use polyhedron_blocks::STATIONS;
 use refusals::{Cause, Refusal};
-use sheet_readers::vector_at;
+use sheet_readers::{STATION_LENGTH, vector_at};
 use sheet_rows::{Center, RowAnswer};
 
 // What the stations' check hands up: the first cause, or none.
@@ -67,7 +67,7 @@ fn places_in(sheet: &[u8], first: usize, n: usize) -> [Vector; STATIONS]
         z: 0.0,
     }; STATIONS];
     for j in 0..n {
-        let p = vector_at(sheet, start + 24 * (first + j));
+        let p = vector_at(sheet, start + STATION_LENGTH * (first + j));
         out[j] = p;
     }
     out
@@ -106,16 +106,14 @@ fn check_stations(sheet: &[u8], c: Center, verts: &[f64], faces: &[u32]) -> Outc
     let a = vector_at(sheet, t + 40);
     let kind = sheet_readers::kind(sheet);
     let total = sheet_readers::stations(sheet) as usize;
-    let mut first = 0;
-    while first < total {
-        let n = polyhedron_group::fewer(STATIONS, total - first);
+    for first in (0..total).step_by(STATIONS) {
+        let n = STATIONS.min(total - first);
         let places = places_in(sheet, first, n);
         let fields = sheet_rows::fields_at(kind, first, n, places, c, verts, faces);
         let cause = check_block(sheet, m, a, first, n, fields);
         if let Cause::Refused(r) = cause {
             return refused_by(r);
         }
-        first += n;
     }
     Outcome { cause: Cause::None }
 }

@@ -17,32 +17,21 @@ use newtonian::FIELD_SIZE;
 use refusals::{Cause, Refusal};
 
 // The causes 1, 2 and 12, for a work list of room entries and a list of space numbers for the records.
+#[tactic(auto, unfolding(crate::specs::Profile::malformed, crate::specs::Profile::too_many, crate::specs::Profile::too_short, mesh::specs::Check::malformed, mesh::specs::Check::too_many, mesh::specs::Check::too_short))]
 fn count_cause(stations: &[f64], verts: &[f64], faces: &[u32], room: usize, space: usize) -> Cause
     ensures { result ≡ or_else (malformed verts.now faces.now stations.now)
         (or_else (too_many verts.now faces.now stations.now) (too_short faces.now stations.now room space)) }
 {
-    if verts.len() % 3 != 0 {
+    if verts.len() % 3 != 0 || faces.len() % 3 != 0 || stations.len() % 3 != 0 {
         return Cause::Refused(Refusal::Malformed);
     }
-    if faces.len() % 3 != 0 {
-        return Cause::Refused(Refusal::Malformed);
-    }
-    if stations.len() % 3 != 0 {
-        return Cause::Refused(Refusal::Malformed);
-    }
-    if MAX_VERTICES < verts.len() / 3 {
+    if MAX_VERTICES < verts.len() / 3
+        || MAX_FACES < faces.len() / 3
+        || MAX_STATIONS < stations.len() / 3
+    {
         return Cause::Refused(Refusal::TooMany);
     }
-    if MAX_FACES < faces.len() / 3 {
-        return Cause::Refused(Refusal::TooMany);
-    }
-    if MAX_STATIONS < stations.len() / 3 {
-        return Cause::Refused(Refusal::TooMany);
-    }
-    if room < faces.len() {
-        return Cause::Refused(Refusal::TooShort);
-    }
-    if space < FIELD_SIZE * (stations.len() / 3) {
+    if room < faces.len() || space < FIELD_SIZE * (stations.len() / 3) {
         return Cause::Refused(Refusal::TooShort);
     }
     Cause::None

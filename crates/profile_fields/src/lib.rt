@@ -51,14 +51,12 @@ pub fn profile_fields(
     ensures { Done (λ i. polyhedron_from i (vertex stations.now i) c r verts.now faces.now) (length stations.now / 3) fields.old result fields.new }
 {
     let total = stations.len() / 3;
-    let mut first = 0;
-    while first < total {
-        let n = polyhedron_group::fewer(STATIONS, total - first);
+    for first in (0..total).step_by(STATIONS) {
+        let n = STATIONS.min(total - first);
         let cause = block(first, n, stations, c, r, verts, faces, fields);
         if let Cause::Refused(e) = cause {
             return Cause::Refused(e);
         }
-        first += n;
     }
     Cause::None
 }

@@ -14,16 +14,6 @@ use newtonian::{FIELD_SIZE, Field};
 use polyhedron_blocks::STATIONS;
 use refusals::Cause;
 
-// Copies the numbers of a record.
-fn copy(out: &mut [f64], numbers: [f64; FIELD_SIZE])
-    requires { length out.old ≡ field_size }
-    ensures { out.new ≡ numbers }
-{
-    for q in 0..FIELD_SIZE {
-        out[q] = numbers[q];
-    }
-}
-
 // Stores the record of station i, where its answer is a field.
 pub fn store_record(i: usize, answer: Field, fields: &mut [f64]) -> Cause
     requires { field_size * (i + 1) ≤ length fields.old }
@@ -34,10 +24,8 @@ pub fn store_record(i: usize, answer: Field, fields: &mut [f64]) -> Cause
         Field::Refused(r) => Cause::Refused(r),
         Field::At(x) => {
             let at = FIELD_SIZE * i;
-            copy(
-                &mut fields[at..at + FIELD_SIZE],
-                newtonian::field_numbers(x),
-            );
+            let numbers = newtonian::field_numbers(x);
+            fields[at..at + FIELD_SIZE].copy_from_slice(&numbers);
             Cause::None
         }
     }

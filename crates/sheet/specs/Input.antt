@@ -5,6 +5,7 @@ use Rattle.newtonian.specs.declared.Vector.{Vector}
 use Rattle.mesh.specs.Surface as surface
 use Rattle.sheet_rows.specs.Row as row
 use Rattle.sheet_rows.specs.declared.Row.{Row}
+use Rattle.sheet.specs.declared.Source.{Source}
 
 -- three coordinates to a vertex and to a station, three vertex numbers to a face
 pub record SheetInput : Type 0 where
@@ -18,6 +19,10 @@ pub record SheetInput : Type 0 where
 -- of a function's arguments
 abbrev pub input_of : ℕ → List Float → List ℕ → Vector → Vector → List Float → SheetInput
 input_of kind v f m b st = record { kind = kind; vertices = v; faces = f; magnetisation = m; ambient = b; stations = st }
+
+-- of the record that the code hands on
+abbrev pub source_input : Source → SheetInput
+source_input s = input_of s.kind s.verts.now s.faces.now s.magnetisation s.ambient s.stations.now
 
 module _ (s : SheetInput) where
   abbrev pub vertex_count : ℕ

@@ -1,9 +1,9 @@
 -- The handle, moved row after row, gives the rows of the sheet, whatever the bytes: `row_after-row`, at the end. Assumes nothing.
-use Rattle.std.specs.Prelude.{◌≡◌, List, [], length, take, drop}
+use Rattle.std.specs.Prelude.{◌≡◌, List, [], ◌∷◌, length, take, drop}
 use Rattle.std.proofs.Math.Path.{refl, ap}
 use Rattle.std.proofs.Common.{sym, ◌∙◌, length-drop, length-take-le}
 use Rattle.std.proofs.Math.Logic.{⊎_elim}
-use Prim.Native.Nat.{ℕ, zero, suc, ◌+◌, ◌*◌, ◌≤◌, ◌<◌}
+use Prim.Native.Nat.{ℕ, zero, suc, ◌+◌, ◌-◌, ◌*◌, ◌≤◌, ◌<◌}
 use native.Mathlib.Omega.{arith}
 use Rattle.std.proofs.Math.Numerals.{add-one}
 use Rattle.std.proofs.Math.Seq.{take-add, drop-drop}
@@ -16,7 +16,7 @@ use Rattle.lists.proofs.Numbers.{below?}
 use Rattle.sheet.specs.Writer.{malformed, too_many}
 use Rattle.sheet.specs.Checker.{stations_in, rows_start, row_start, row_length, parse, wrong_length, checker_cause, opening_cause, rows_part, row_part}
 use Rattle.sheet_readers.proofs.Opening.{opened, no_rows, no_row, past_rows}
-use Rattle.sheet_handle.specs.RowAfterRow.{row_count, next_row_of, after_moves, part_after, joined_parts, RowAfterRow}
+use Rattle.sheet_handle.specs.RowAfterRow.{row_count, next_row_of, after_moves, part_after, joined_parts, rows_left, rows_from, RowAfterRow}
 
 module _ (b : List ℕ) where
   -- ---- where the handle stands
@@ -117,6 +117,16 @@ module _ (b : List ℕ) where
 
   pub numbered : (n : ℕ) → part_after b n ≡ row_part b n
   numbered n = ⊎_elim (λ l. ap (row_part b) (stands n (omega arith))) (λ g. empty n g ∙ sym (past_last n g)) (below? n (row_count b))
+
+  -- ---- the rows that are left
+
+  pub none_left : (i : ℕ) → row_count b ≤ i → rows_from b i ≡ []
+  unfolding rows_left
+  none_left i h = let z : row_count b - i ≡ 0 = omega arith in rw z
+
+  pub one-left : (i : ℕ) → i < row_count b → rows_from b i ≡ row_part b i ∷ rows_from b (i + 1)
+  unfolding rows_left
+  one-left i h = let z : row_count b - i ≡ suc (row_count b - (i + 1)) = omega arith in rw z
 
 pub row_after-row : (b : List ℕ) → RowAfterRow b
 row_after-row b = record {

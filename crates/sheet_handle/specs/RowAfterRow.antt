@@ -1,6 +1,6 @@
 -- The handle on the bytes `b` of a sheet: it stands at a row, gives that row's part of the sheet (`row_part` of the checker's definitions), and moves to the next. Definitions only;
 -- `Laws` shows `RowAfterRow` of every list of bytes.
-use Rattle.std.specs.Prelude.{◌≡◌, cond, List, [], ◌++◌, ℕ, zero, suc, ◌+◌, ◌≤◌, ◌<◌, ltb, length}
+use Rattle.std.specs.Prelude.{◌≡◌, cond, List, [], ◌∷◌, ◌++◌, ℕ, zero, suc, ◌+◌, ◌-◌, ◌≤◌, ◌<◌, ltb, length}
 use Rattle.refusals.specs.declared.Cause.{Cause}
 use Rattle.refusals.specs.declared.Cause.TheVariants.{None, Refused}
 use Rattle.sheet.specs.Checker.{stations_in, row_length, checker_cause, opening_cause, rows_part, row_part}
@@ -32,6 +32,14 @@ module _ (b : List ℕ) where
   unfoldable pub joined_parts : ℕ → List ℕ
   joined_parts zero = []
   joined_parts (suc n) = joined_parts n ++ part_after n
+
+  -- the parts of n rows from row i on, and of all rows from row i on
+  unfoldable pub rows_left : ℕ → ℕ → List (List ℕ)
+  rows_left zero i = []
+  rows_left (suc n) i = row_part b i ∷ rows_left n (i + 1)
+
+  abbrev pub rows_from : ℕ → List (List ℕ)
+  rows_from i = rows_left (row_count - i) i
 
 -- row after row from the first, the handle gives exactly as many parts as there are rows, each a whole row, and then only empty ones; joined they are the rows
 pub record RowAfterRow (b : List ℕ) : Type 0 where

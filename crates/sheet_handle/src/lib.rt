@@ -1,10 +1,11 @@
-// A handle on a sheet's bytes, which gives row after row. Its own functions only take it apart and put
-// it together; the work is done on plain slices and numbers.
+// A handle on a sheet's bytes, which gives row after row, and an iterator over the rows. The handle's own functions only
+// take it apart and put it together; the work is done on plain slices and numbers.
 #![tactic(auto)]
 
 ghost use Rattle.std.specs.Prelude.{◌≡◌};
+ghost use Rattle.std.specs.Iterator.{YieldsFirstRef, item_count};
 ghost use Rattle.sheet.specs.Checker.{row_part};
-ghost use Rattle.sheet_handle.specs.RowAfterRow.{row_count, next_row_of, part_after};
+ghost use Rattle.sheet_handle.specs.RowAfterRow.{row_count, next_row_of, part_after, rows_from};
 
 use refusals::Cause;
 
@@ -13,6 +14,24 @@ use refusals::Cause;
 pub struct Rows<'a> {
     pub sheet: &'a [u8],
     pub at: usize,
+}
+
+// The rows from the one at which it stands to the last.
+impl<'a> Iterator for Rows<'a> {
+    type Item = &'a [u8];
+
+    ghost next_gives = { YieldsFirstRef (λ h. rows_from h.sheet.now h.at) };
+
+    ghost remaining = { item_count (λ h. rows_from h.sheet.now h.at) };
+
+    fn next(&mut self) -> Option<&'a [u8]> {
+        if row_count(self.sheet) <= self.at {
+            return None;
+        }
+        let part = sheet_readers::sheet_row(self.sheet, self.at);
+        self.at += 1;
+        Some(part)
+    }
 }
 
 // How many rows readers are handed: none where 16, 1 or 2 refuses.
@@ -64,10 +83,8 @@ fn row_after(sheet: &[u8], n: usize) -> &[u8]
     ensures { result.now ≡ part_after sheet.now n }
 {
     let mut h = new(sheet);
-    let mut i = 0;
-    while i < n {
+    for _i in 0..n {
         h = next(h);
-        i += 1;
     }
     row(h)
 }

@@ -11,11 +11,11 @@ ghost use Rattle.sheet_readers.specs.Parts.{station_start, station_part, trailer
 
 use newtonian::Vector;
 use refusals::{Cause, Refusal};
-use sheet::TRAILER_LENGTH;
+use sheet::{FACE_LENGTH, TRAILER_LENGTH, VERTEX_LENGTH};
 use sheet_layout::f64_at;
 
 // The bytes of a station.
-pub const STATION_LENGTH: usize = 24;
+pub const STATION_LENGTH: usize = sheet::STATION_LENGTH;
 
 // All that stands in the trailer but the pointer.
 #[derive(Clone, Copy)]
@@ -36,7 +36,7 @@ pub enum TrailerAnswer {
     Refused(Refusal),
 }
 
-// ---- the trailer
+// ---- the trailer; each field has a name of its own, as one reader by its place would leave the places to the callers
 
 // Where it begins.
 pub fn trailer(sheet: &[u8]) -> usize
@@ -50,28 +50,28 @@ pub fn kind(sheet: &[u8]) -> u32
     requires { trailer_length ≤ length sheet.now }
     ensures { result ≡ kind_in sheet.now }
 {
-    sheet_layout::u32_at(sheet, sheet.len() - TRAILER_LENGTH)
+    sheet_layout::u32_at(sheet, trailer(sheet))
 }
 
 pub fn vertices(sheet: &[u8]) -> u32
     requires { trailer_length ≤ length sheet.now }
     ensures { result ≡ vertices_in sheet.now }
 {
-    sheet_layout::u32_at(sheet, sheet.len() - TRAILER_LENGTH + 4)
+    sheet_layout::u32_at(sheet, trailer(sheet) + 4)
 }
 
 pub fn faces(sheet: &[u8]) -> u32
     requires { trailer_length ≤ length sheet.now }
     ensures { result ≡ faces_in sheet.now }
 {
-    sheet_layout::u32_at(sheet, sheet.len() - TRAILER_LENGTH + 8)
+    sheet_layout::u32_at(sheet, trailer(sheet) + 8)
 }
 
 pub fn stations(sheet: &[u8]) -> u32
     requires { trailer_length ≤ length sheet.now }
     ensures { result ≡ stations_in sheet.now }
 {
-    sheet_layout::u32_at(sheet, sheet.len() - TRAILER_LENGTH + 12)
+    sheet_layout::u32_at(sheet, trailer(sheet) + 12)
 }
 
 // The volume's bits.
@@ -79,14 +79,14 @@ pub fn volume_bits(sheet: &[u8]) -> u64
     requires { trailer_length ≤ length sheet.now }
     ensures { result ≡ volume_in sheet.now }
 {
-    sheet_layout::u64_at(sheet, sheet.len() - TRAILER_LENGTH + 64)
+    sheet_layout::u64_at(sheet, trailer(sheet) + 64)
 }
 
 fn pointer(sheet: &[u8]) -> u64
     requires { trailer_length ≤ length sheet.now }
     ensures { result ≡ pointer_in sheet.now }
 {
-    sheet_layout::u64_at(sheet, sheet.len() - TRAILER_LENGTH + 72)
+    sheet_layout::u64_at(sheet, trailer(sheet) + 72)
 }
 
 // The three doubles from place at on.
@@ -130,9 +130,9 @@ fn rows_length(kind: u32, n: u32) -> usize
 fn pointer_of(kind: u32, vertices: u32, faces: u32, stations: u32) -> usize
     ensures { result ≡ pointer_of kind vertices faces stations }
 {
-    24 * (vertices as usize)
-        + 36 * (faces as usize)
-        + 24 * (stations as usize)
+    VERTEX_LENGTH * (vertices as usize)
+        + FACE_LENGTH * (faces as usize)
+        + STATION_LENGTH * (stations as usize)
         + rows_length(kind, stations)
 }
 
@@ -141,7 +141,7 @@ pub fn stations_start(sheet: &[u8]) -> usize
     requires { Opened sheet.now }
     ensures { result ≡ stations_start sheet.now }
 {
-    24 * (vertices(sheet) as usize) + 36 * (faces(sheet) as usize)
+    VERTEX_LENGTH * (vertices(sheet) as usize) + FACE_LENGTH * (faces(sheet) as usize)
 }
 
 // Where station i begins.
@@ -157,7 +157,9 @@ pub fn row_start(sheet: &[u8], i: u32) -> usize
     requires { Opened sheet.now }
     ensures { result ≡ row_start sheet.now i }
 {
-    stations_start(sheet) + 24 * (stations(sheet) as usize) + rows_length(kind(sheet), i)
+    stations_start(sheet)
+        + STATION_LENGTH * (stations(sheet) as usize)
+        + rows_length(kind(sheet), i)
 }
 
 // ---- the causes 16, 1 and 2

@@ -1,4 +1,5 @@
-// The kinds of a sheet, what each decides, and the limits on a sheet's counts.
+// The kinds of a sheet, what each decides, and the limits on a sheet's counts. A kind stays the number that C's callers pass and a sheet's bytes hold: an enum would be made
+// anew at each call, and of it the definitions, which speak of any number, say nothing.
 ghost use Rattle.std.specs.Prelude.{◌≡◌, ◌*◌};
 ghost use Rattle.sheet_rows.specs.Kinds.{is_mesh, is_prism, known_kind, row_width, axis_rule, magnetic_constant, within_counts};
 
@@ -14,12 +15,14 @@ pub const PLAIN_WIDTH: usize = 8;
 
 pub const PLAIN_BYTES: usize = 8 * PLAIN_WIDTH;
 
+#[tactic(auto, unfolding(crate::specs::Kinds::is_mesh))]
 pub fn is_mesh(kind: u32) -> bool
     ensures { result ≡ is_mesh kind }
 {
     kind == MESH_KIND
 }
 
+#[tactic(auto, unfolding(crate::specs::Kinds::is_prism))]
 pub fn is_prism(kind: u32) -> bool
     ensures { result ≡ is_prism kind }
 {
@@ -27,19 +30,11 @@ pub fn is_prism(kind: u32) -> bool
 }
 
 // A mesh; or a prism, with two vertices and no faces.
+#[tactic(auto, unfolding(crate::specs::Kinds::known_kind))]
 pub fn known_kind(kind: u32, vertices: usize, faces: usize) -> bool
     ensures { result ≡ known_kind kind vertices faces }
 {
-    if is_mesh(kind) {
-        return true;
-    }
-    if !is_prism(kind) {
-        return false;
-    }
-    if vertices != 2 {
-        return false;
-    }
-    faces == 0
+    is_mesh(kind) || (is_prism(kind) && vertices == 2 && faces == 0)
 }
 
 // The bytes of a row.
@@ -50,26 +45,23 @@ pub fn row_length(kind: u32) -> usize
 }
 
 // Of equal sides, the one that a prism is halved across.
+#[tactic(auto, unfolding(crate::specs::Kinds::axis_rule))]
 pub fn axis_rule(kind: u32) -> AxisRule
     ensures { result ≡ axis_rule kind }
 {
     AxisRule::LastOfEquals
 }
 
+#[tactic(auto, unfolding(crate::specs::Kinds::magnetic_constant))]
 pub fn magnetic_constant(kind: u32) -> f64
     ensures { result ≡ magnetic_constant kind }
 {
     anomaly::C_M
 }
 
+#[tactic(auto, unfolding(crate::specs::Kinds::within_counts))]
 pub fn within_counts(vertices: usize, faces: usize, stations: usize) -> bool
     ensures { result ≡ within_counts vertices faces stations }
 {
-    if MAX_VERTICES < vertices {
-        return false;
-    }
-    if MAX_FACES < faces {
-        return false;
-    }
-    stations <= MAX_STATIONS
+    vertices <= MAX_VERTICES && faces <= MAX_FACES && stations <= MAX_STATIONS
 }

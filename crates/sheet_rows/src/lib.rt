@@ -146,14 +146,7 @@ pub fn row_numbers(kind: u32, row: Row) -> [f64; PLAIN_WIDTH]
 fn all_finite(numbers: &[f64]) -> bool
     ensures { result ≡ all_finite numbers.now }
 {
-    let mut i = 0;
-    while i < numbers.len() {
-        if !doubles::is_finite(numbers[i]) {
-            return false;
-        }
-        i += 1;
-    }
-    true
+    numbers.iter().all(|x| doubles::is_finite(*x))
 }
 
 pub fn is_finite_row(kind: u32, row: Row) -> bool

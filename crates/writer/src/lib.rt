@@ -4,7 +4,7 @@
 ghost use Rattle.std.specs.Prelude.{◌≡◌, length};
 ghost use Rattle.refusals.specs.Answer.{value, or_answer};
 ghost use Rattle.refusals.specs.declared.Cause.TheVariants.{None};
-ghost use Rattle.sheet.specs.Input.{input_of};
+ghost use Rattle.sheet.specs.Input.{input_of, source_input};
 ghost use Rattle.writer_causes.specs.LengthsCause.{lengths_cause};
 ghost use Rattle.writer.specs.Written.{written_answer, Writes};
 ghost use Rattle.writer.specs.Steps.{LeavesLate};
@@ -12,8 +12,10 @@ ghost use Rattle.writer.specs.Steps.{LeavesLate};
 use mesh::Solid;
 use newtonian::Vector;
 use refusals::{Cause, Refusal};
+use sheet::Source;
 use sheet_body::check_body;
 use writer_causes::{lengths_cause, number_cause, sheet_length};
+use writer_put_sheet::put_sheet;
 
 // What `write_sheet` answers: the sheet's length, or the refusal.
 #[derive(Clone, Copy)]
@@ -32,37 +34,19 @@ fn answer(cause: Cause, size: usize) -> Written
 }
 
 // Writes the sheet of a body whose counts and lengths are within the limits; the numbers are judged by the caller. The check of the body finds the mates, and leaves them in their place.
-fn write_counted(
-    kind: u32,
-    verts: &[f64],
-    faces: &[u32],
-    magnetisation: Vector,
-    ambient: Vector,
-    stations: &[f64],
-    work: &mut [u32],
-    out: &mut [u8],
-) -> Written
-    requires { lengths_cause (input_of kind verts.now faces.now magnetisation ambient stations.now) (length work.old) (length out.old) ≡ None }
-    ensures { LeavesLate (input_of kind verts.now faces.now magnetisation ambient stations.now) work.old out.old result work.new out.new }
+fn write_counted(source: &Source, work: &mut [u32], out: &mut [u8]) -> Written
+    requires { lengths_cause (source_input source.now) (length work.old) (length out.old) ≡ None }
+    ensures { LeavesLate (source_input source.now) work.old out.old result work.new out.new }
 {
-    let at = 8 * verts.len() + 8 * faces.len();
-    let end = at + 4 * faces.len();
-    match check_body(kind, verts, faces, work, &mut out[at..end]) {
+    let v = source.verts.len();
+    let n = source.faces.len();
+    let at = 8 * v + 8 * n;
+    let end = at + 4 * n;
+    match check_body(source, work, &mut out[at..end]) {
         Solid::Refused(r) => Written::Refused(r),
         Solid::Volume(volume) => {
-            let n = faces.len();
-            let size = sheet_length(kind, verts.len() / 3, faces.len() / 3, stations.len() / 3);
-            let cause = writer_put_sheet::put_sheet(
-                kind,
-                verts,
-                faces,
-                magnetisation,
-                ambient,
-                stations,
-                volume,
-                &work[..n],
-                &mut out[..size],
-            );
+            let size = sheet_length(source.kind, v / 3, n / 3, source.stations.len() / 3);
+            let cause = put_sheet(source, volume, &work[..n], &mut out[..size]);
             answer(cause, size)
         }
     }
@@ -82,6 +66,14 @@ pub fn write_sheet(
 ) -> Written
     ensures { Writes (input_of kind verts.now faces.now magnetisation ambient stations.now) work.old out.old result work.new out.new }
 {
+    let source = Source {
+        kind,
+        verts,
+        faces,
+        magnetisation,
+        ambient,
+        stations,
+    };
     let counts = lengths_cause(
         kind,
         verts.len(),
@@ -93,18 +85,9 @@ pub fn write_sheet(
     if let Cause::Refused(r) = counts {
         return Written::Refused(r);
     }
-    let numbers = number_cause(verts, magnetisation, ambient, stations);
+    let numbers = number_cause(&source);
     if let Cause::Refused(r) = numbers {
         return Written::Refused(r);
     }
-    write_counted(
-        kind,
-        verts,
-        faces,
-        magnetisation,
-        ambient,
-        stations,
-        work,
-        out,
-    )
+    write_counted(&source, work, out)
 }

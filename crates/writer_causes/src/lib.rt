@@ -1,16 +1,15 @@
 // What `write_sheet` asks of its arguments before it touches anything: the causes of refusal 1, 2, 12 and 3.
 #![tactic(auto)]
 
-ghost use Rattle.std.specs.Prelude.{◌≡◌, List, ℕ, ◌+◌, ◌≤◌};
+ghost use Rattle.std.specs.Prelude.{◌≡◌, ◌+◌, ◌≤◌};
 ghost use Rattle.mesh_orders.specs.Edges.{max_vertices, max_faces, max_stations};
 ghost use Rattle.sheet.specs.Bytes.{trailer_length, pointer_of};
 ghost use Rattle.sheet.specs.Writer.{out_of_limits};
-ghost use Rattle.sheet.specs.Input.{SheetInput, input_of};
+ghost use Rattle.sheet.specs.Input.{SheetInput, source_input};
 ghost use Rattle.writer_causes.specs.LengthsCause.{well_formed, Lengths, lengths_cause};
 
-use newtonian::Vector;
 use refusals::{Cause, Refusal};
-use sheet::TRAILER_LENGTH;
+use sheet::{FACE_LENGTH, STATION_LENGTH, Source, TRAILER_LENGTH, VERTEX_LENGTH};
 
 // ---- 1, 2 and 12
 
@@ -18,16 +17,10 @@ use sheet::TRAILER_LENGTH;
 fn well_formed(kind: u32, verts: usize, faces: usize, stations: usize) -> bool
     ensures { result ≡ well_formed kind verts faces stations }
 {
-    if verts % 3 != 0 {
-        return false;
-    }
-    if faces % 3 != 0 {
-        return false;
-    }
-    if stations % 3 != 0 {
-        return false;
-    }
-    sheet_rows::kinds::known_kind(kind, verts / 3, faces / 3)
+    verts % 3 == 0
+        && faces % 3 == 0
+        && stations % 3 == 0
+        && sheet_rows::kinds::known_kind(kind, verts / 3, faces / 3)
 }
 
 // The length of a sheet of v vertices, f faces and n stations.
@@ -35,7 +28,10 @@ pub fn sheet_length(kind: u32, v: usize, f: usize, n: usize) -> usize
     requires { (v ≤ max_vertices) × (f ≤ max_faces) × (n ≤ max_stations) }
     ensures { result ≡ pointer_of kind v f n + trailer_length }
 {
-    24 * v + 36 * f + (24 + sheet_rows::kinds::row_length(kind)) * n + TRAILER_LENGTH
+    VERTEX_LENGTH * v
+        + FACE_LENGTH * f
+        + (STATION_LENGTH + sheet_rows::kinds::row_length(kind)) * n
+        + TRAILER_LENGTH
 }
 
 // For the lengths of the lists, of work and of out, which alone decide it.
@@ -70,20 +66,15 @@ pub fn lengths_cause(
 // ---- 3
 
 // Kind and faces play no part.
-pub fn number_cause(
-    verts: &[f64],
-    magnetisation: Vector,
-    ambient: Vector,
-    stations: &[f64],
-) -> Cause
-    ensures { (k : ℕ) (f : List ℕ) → result ≡ out_of_limits (input_of k verts.now f magnetisation ambient stations.now) }
+pub fn number_cause(source: &Source) -> Cause
+    ensures { result ≡ out_of_limits (source_input source.now) }
 {
-    let vertices = mesh::scan::out_of_limits(verts);
+    let vertices = mesh::scan::out_of_limits(source.verts);
     if let Cause::Refused(r) = vertices {
         return Cause::Refused(r);
     }
-    if !anomaly::both_within_limits(magnetisation, ambient) {
+    if !anomaly::both_within_limits(source.magnetisation, source.ambient) {
         return Cause::Refused(Refusal::OutOfLimits);
     }
-    mesh::scan::out_of_limits(stations)
+    mesh::scan::out_of_limits(source.stations)
 }

@@ -1,37 +1,42 @@
 -- `checker_order::are_reverses` meets its contract. Assumes nothing.
 use mathlib.Core.Path.{◌≡◌, sym, ◌∙◌}
-use mathlib.Core.Bool.{true}
-use Prim.Native.Nat.{◌+◌, ◌%◌, ◌<◌}
+use mathlib.Core.List.{List}
+use Prim.Native.Nat.{ℕ, ◌+◌, ◌%◌, ◌<◌}
 use native.Mathlib.Omega.{arith}
 use lib.ListN.{length}
-use Rattle.sheet.specs.Checker.{is_reverse}
+use Rattle.lists.proofs.Numbers.{true≢false}
 use Rattle.checker_order.proofs.Mates.{mates_standing, first, second, third, not_first, not-second, up_to-third}
 use Rattle.checker_order.proofs.are_reverses.Goals as goal
+use Rattle.checker_order.proofs.are_reverses.Goals.{then-has_edge, else-has_edge}
 
-pub returns-then-not-has_edge : goal.returns-then-not-has_edge
-returns-then-not-has_edge c =
+pub returns-then-has_edge-2 : goal.returns-then-has_edge-2
+returns-then-has_edge-2 c =
     let a = c.args in
-    let f = a.faces.now in
-    not_first f (mates_standing a.sheet.now a.at f) a.i
-    (sym (first a.sheet.now a.at f a.i (omega arith) (omega arith) _ c.u32_at.ensures) ∙ sym c.has_edge.ensures ∙ c.if-not-has_edge.true)
+    let b : List ℕ = a.sheet.now in
+    let f : List ℕ = a.faces.now in
+    let within : (a.i % 3 ≡ 0) × (a.i + 2 < length f) = (c.requires.1, omega (arith, c.requires.0, c.requires.1, c.requires.2)) in
+    elim c.if-has_edge.branch [
+      | then-has_edge w ↦
+          c.has_edge-then-has_edge-2.ensures ∙ third b a.at f a.i within.0 within.1 _ c.u32_at-then-has_edge-2.ensures
+          ∙ up_to-third f (mates_standing b a.at f) a.i
+          (sym (first b a.at f a.i within.0 within.1 _ c.u32_at.ensures) ∙ sym c.has_edge.ensures ∙ w.if-has_edge.true)
+          (sym (second b a.at f a.i within.0 within.1 _ w.u32_at-then-has_edge.ensures) ∙ sym w.has_edge-then-has_edge.ensures ∙ sym w.value-is ∙ c.if-has_edge-2.true)
+      | else-has_edge w ↦ absurd (true≢false (sym c.if-has_edge-2.true ∙ w.value-is ∙ w.if-has_edge.false))
+    ]
 
-pub returns-then-not-has_edge-2 : goal.returns-then-not-has_edge-2
-returns-then-not-has_edge-2 c =
-    let within : (c.args.i % 3 ≡ 0) × (c.args.i + 2 < length c.args.faces.now) = (c.requires.1, omega (arith, c.requires.0, c.requires.1, c.requires.2)) in
-    let one : let a = c.args in is_reverse a.faces.now (mates_standing a.sheet.now a.at a.faces.now) a.i ≡ true = let a = c.args in
-    sym (first a.sheet.now a.at a.faces.now a.i within.0 within.1 _ c.u32_at.ensures) ∙ sym c.has_edge.ensures ∙ c.if-not-has_edge.false in
+pub returns-else-has_edge-2 : goal.returns-else-has_edge-2
+returns-else-has_edge-2 c =
     let a = c.args in
-    let f = a.faces.now in
-    not-second f (mates_standing a.sheet.now a.at f) a.i one
-    (sym (second a.sheet.now a.at f a.i within.0 within.1 _ c.u32_at-2.ensures) ∙ sym c.has_edge-2.ensures ∙ c.if-not-has_edge-2.true)
-
-pub returns : goal.returns
-returns c =
-    let within : (c.args.i % 3 ≡ 0) × (c.args.i + 2 < length c.args.faces.now) = (c.requires.1, omega (arith, c.requires.0, c.requires.1, c.requires.2)) in
-    let one : let a = c.args in is_reverse a.faces.now (mates_standing a.sheet.now a.at a.faces.now) a.i ≡ true = let a = c.args in
-    sym (first a.sheet.now a.at a.faces.now a.i within.0 within.1 _ c.u32_at.ensures) ∙ sym c.has_edge.ensures ∙ c.if-not-has_edge.false in
-    let a = c.args in
-    let f = a.faces.now in
-    c.has_edge-3.ensures ∙ third a.sheet.now a.at f a.i within.0 within.1 _ c.u32_at-3.ensures
-    ∙ up_to-third f (mates_standing a.sheet.now a.at f) a.i one
-    (sym (second a.sheet.now a.at f a.i within.0 within.1 _ c.u32_at-2.ensures) ∙ sym c.has_edge-2.ensures ∙ c.if-not-has_edge-2.false)
+    let b : List ℕ = a.sheet.now in
+    let f : List ℕ = a.faces.now in
+    let within : (a.i % 3 ≡ 0) × (a.i + 2 < length f) = (c.requires.1, omega (arith, c.requires.0, c.requires.1, c.requires.2)) in
+    elim c.if-has_edge.branch [
+      | then-has_edge w ↦
+          c.if-has_edge-2.false
+          ∙ not-second f (mates_standing b a.at f) a.i
+          (sym (first b a.at f a.i within.0 within.1 _ c.u32_at.ensures) ∙ sym c.has_edge.ensures ∙ w.if-has_edge.true)
+          (sym (second b a.at f a.i within.0 within.1 _ w.u32_at-then-has_edge.ensures) ∙ sym w.has_edge-then-has_edge.ensures ∙ sym w.value-is ∙ c.if-has_edge-2.false)
+      | else-has_edge w ↦
+          c.if-has_edge-2.false
+          ∙ not_first f (mates_standing b a.at f) a.i (sym (first b a.at f a.i within.0 within.1 _ c.u32_at.ensures) ∙ sym c.has_edge.ensures ∙ w.if-has_edge.false)
+    ]

@@ -1,6 +1,6 @@
 -- `checker_order::wrong_mate` meets its contract: the mates so far are reverses. Assumes nothing.
 use mathlib.Core.Path.{sym, ◌∙◌}
-use Prim.Native.Nat.{◌-◌}
+use Prim.Native.Nat.{◌+◌}
 use native.Mathlib.Omega.{arith}
 use lib.ListN.{length}
 use Rattle.refusals.specs.declared.Refusal.TheVariants.{WrongMate}
@@ -33,3 +33,13 @@ returns c =
     let a = c.args in
     let f = a.faces.now in
     scan_end (length f) (is_reverse f (mates_standing a.sheet.now a.at f)) (λ j. WrongMate) c.loop-i.i (omega arith) (omega arith) c.loop-i.invariant.2
+
+-- after the last face
+pub returns-else-not-are_reverses : goal.returns-else-not-are_reverses
+unfolding wrong_mate
+returns-else-not-are_reverses c =
+    let a = c.args in
+    let f = a.faces.now in
+    let m = mates_standing a.sheet.now a.at f in
+    scan_end (length f) (is_reverse f m) (λ j. WrongMate) (c.loop-i.i + 3) (omega arith) (omega arith)
+    (three_more f m c.loop-i.i c.loop-i.invariant.2 (sym c.are_reverses.ensures ∙ c.if-not-are_reverses.false))

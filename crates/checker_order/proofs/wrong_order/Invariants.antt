@@ -1,7 +1,5 @@
 -- `checker_order::wrong_order` meets its contract: the entries so far are edge uses whose edges ascend. Assumes nothing.
 use mathlib.Core.Path.{◌≡◌}
-use Prim.Native.Nat.{◌-◌, ◌≤◌}
-use lib.ListN.{length}
 use Rattle.refusals.specs.declared.Refusal.TheVariants.{WrongOrder}
 use Rattle.refusals.specs.declared.Cause.TheVariants.{None}
 use Rattle.refusals.specs.Causes.{unless, first_of}
@@ -10,8 +8,4 @@ use Rattle.checker_order.proofs.Compare.{Last}
 use Rattle.checker_order.proofs.wrong_order.Given as goal
 
 abbrev pub invariant-loop-i : goal.invariant-loop-i
-invariant-loop-i l =
-    (l.i ≤ length l.faces) × (first_of l.i (λ j. unless (ascends l.faces l.order j) WrongOrder) ≡ None) × Last l.faces l.order l.i l.last
-
-abbrev pub decreases-loop-i : goal.decreases-loop-i
-decreases-loop-i l = length l.faces - l.i
+invariant-loop-i l = (first_of l.i (λ j. unless (ascends l.faces l.order j) WrongOrder) ≡ None) × Last l.faces l.order l.i l.last

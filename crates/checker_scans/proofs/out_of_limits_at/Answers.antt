@@ -20,10 +20,7 @@ size n b at = simp (length-map, unpack-length)
 pub loop-i-init : goal.loop-i-init
 loop-i-init c =
     let v = doubles (unpack 8 c.args.n c.args.sheet.now c.args.at) in
-    (omega arith, scan_start c.args.n (in_limits v) (λ i. OutOfLimits))
-
-pub within_limits-requires : goal.within_limits-requires
-within_limits-requires c = tt
+    scan_start c.args.n (in_limits v) (λ i. OutOfLimits)
 
 pub returns-then-not-within_limits : goal.returns-then-not-within_limits
 unfolding out_of_limits
@@ -31,22 +28,20 @@ returns-then-not-within_limits c =
     let a = c.args in
     let v = doubles (unpack 8 a.n a.sheet.now a.at) in
     let i = c.loop-i.i in
-    rw (size a.n a.sheet.now a.at) (scan_stop a.n (in_limits v) (λ j. OutOfLimits) i (omega arith) c.loop-i.invariant.1
+    rw (size a.n a.sheet.now a.at) (scan_stop a.n (in_limits v) (λ j. OutOfLimits) i (omega arith) c.loop-i.invariant
     (ap within_limits (double-at a.sheet.now a.at a.n i (omega arith) ∙ sym c.f64_at.ensures) ∙ sym c.within_limits.ensures ∙ c.if-not-within_limits.true))
 
 pub loop-i-preserved : goal.loop-i-preserved
 loop-i-preserved c =
     let a = c.args in
     let v = doubles (unpack 8 a.n a.sheet.now a.at) in
-    let i = c.loop-i.i in (
-      omega arith,
-      scan_more a.n (in_limits v) (λ j. OutOfLimits) i c.loop-i.invariant.1
-          (ap within_limits (double-at a.sheet.now a.at a.n i (omega arith) ∙ sym c.f64_at.ensures) ∙ sym c.within_limits.ensures ∙ c.if-not-within_limits.false),
-    )
+    let i = c.loop-i.i in
+    scan_more a.n (in_limits v) (λ j. OutOfLimits) i c.loop-i.invariant
+    (ap within_limits (double-at a.sheet.now a.at a.n i (omega arith) ∙ sym c.f64_at.ensures) ∙ sym c.within_limits.ensures ∙ c.if-not-within_limits.false)
 
 pub returns : goal.returns
 unfolding out_of_limits
 returns c =
     let a = c.args in
     let v = doubles (unpack 8 a.n a.sheet.now a.at) in
-    rw (size a.n a.sheet.now a.at) (scan_end a.n (in_limits v) (λ j. OutOfLimits) c.loop-i.i (omega arith) (omega arith) c.loop-i.invariant.1)
+    rw (size a.n a.sheet.now a.at) (scan_end a.n (in_limits v) (λ j. OutOfLimits) c.loop-i.i (omega arith) (omega arith) c.loop-i.invariant)

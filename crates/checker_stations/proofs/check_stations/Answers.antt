@@ -1,6 +1,6 @@
 -- `checker_stations::check_stations` meets its contract: none of the stations of the blocks so far is refused. Assumes nothing.
 use mathlib.Core.Path.{◌≡◌, refl, sym, ◌∙◌, subst}
-use Prim.Native.Nat.{ℕ, ◌+◌, ◌-◌, ◌≤◌}
+use Prim.Native.Nat.{ℕ, ◌+◌, ◌≤◌}
 use native.Mathlib.Omega.{arith}
 use lib.ListN.{length}
 use Rattle.refusals.specs.Causes.{first_of}
@@ -28,21 +28,21 @@ loop-first-init c = (omega arith, none _)
 
 pub fields_at-fields-requires : goal.fields_at-fields-requires
 fields_at-fields-requires c =
-    let within : c.loop-first.first + c.fewer-n.result ≤ stations_in c.args.sheet.now = omega (arith, c.fewer-n.ensures, c.loop-first-test.true, c.stations-total.ensures) in
+    let within : c.loop-first.first + c.min-n.result ≤ stations_in c.args.sheet.now = omega (arith, c.min-n.ensures, c.loop-first-test.true, c.stations-total.ensures) in
     let a = c.args in
     let h = c.requires in (
       subst (λ (k : ℕ). BodyWithCenter k a.c a.verts.now a.faces.now) (sym c.kind-kind.ensures) (record { body = λ m. h.0.body; center = h.1; corners = h.0.corners }),
-      omega (arith, c.fewer-n.ensures),
+      omega (arith, c.min-n.ensures),
       omega (arith, within, h.0.opened.stations),
     )
 
 pub check_block-cause-requires : goal.check_block-cause-requires
 unfolding parse
 check_block-cause-requires c =
-    let within : c.loop-first.first + c.fewer-n.result ≤ stations_in c.args.sheet.now = omega (arith, c.fewer-n.ensures, c.loop-first-test.true, c.stations-total.ensures) in
+    let within : c.loop-first.first + c.min-n.result ≤ stations_in c.args.sheet.now = omega (arith, c.min-n.ensures, c.loop-first-test.true, c.stations-total.ensures) in
     let h = c.requires.0 in (
       h.opened,
-      omega (arith, c.fewer-n.ensures),
+      omega (arith, c.min-n.ensures),
       within,
       c.vector_at-m.ensures ∙ rw c.trailer-t.ensures,
       c.vector_at-a.ensures ∙ rw c.trailer-t.ensures,
@@ -52,17 +52,27 @@ check_block-cause-requires c =
 pub returns-in-Refused : goal.returns-in-Refused
 unfolding stations_outcome stations_cause
 returns-in-Refused c =
-    let within : c.loop-first.first + c.fewer-n.result ≤ stations_in c.args.sheet.now = omega (arith, c.fewer-n.ensures, c.loop-first-test.true, c.stations-total.ensures) in
+    let within : c.loop-first.first + c.min-n.result ≤ stations_in c.args.sheet.now = omega (arith, c.min-n.ensures, c.loop-first-test.true, c.stations-total.ensures) in
     let l = c.loop-first in
     let b = c.args.sheet.now in
     c.refused_by.ensures
-    ∙ handed (sym (block_refused l.first c.fewer-n.result (check_station b (parse b)) l.invariant.1 (stations_in b) _ within (sym c.check_block-cause.ensures ∙ c.in-Refused.is)))
+    ∙ handed (sym (block_refused l.first c.min-n.result (check_station b (parse b)) l.invariant.1 (stations_in b) _ within (sym c.check_block-cause.ensures ∙ c.in-Refused.is)))
 
 pub loop-first-preserved : goal.loop-first-preserved
 loop-first-preserved c =
     let l = c.loop-first in
     let b = c.args.sheet.now in
-    (omega (arith, c.fewer-n.ensures, c.loop-first-test.true), block_passed l.first c.fewer-n.result (check_station b (parse b)) l.invariant.1 (sym c.check_block-cause.ensures ∙ c.in_default.is))
+    let next : l.first + c.min-n.result ≡ l.first + 8 = omega (arith, c.min-n.ensures) in
+    (omega arith, subst (λ (k : ℕ). first_of k (check_station b (parse b)) ≡ None) next (block_passed l.first c.min-n.result (check_station b (parse b)) l.invariant.1 (sym c.check_block-cause.ensures ∙ c.in_default.is)))
+
+-- after the last block
+pub returns-in_default : goal.returns-in_default
+unfolding stations_outcome stations_cause
+returns-in_default c =
+    let l = c.loop-first in
+    let b = c.args.sheet.now in
+    let e : l.first + c.min-n.result ≡ stations_in b = omega (arith, c.min-n.ensures, c.stations-total.ensures) in
+    handed (sym (subst (λ (n : ℕ). first_of n (check_station b (parse b)) ≡ None) e (block_passed l.first c.min-n.result (check_station b (parse b)) l.invariant.1 (sym c.check_block-cause.ensures ∙ c.in_default.is))))
 
 pub returns : goal.returns
 unfolding stations_outcome stations_cause
@@ -106,11 +116,5 @@ stations-total-requires c =
 
 pub places_in-places-requires : goal.places_in-places-requires
 places_in-places-requires c =
-    let within : c.loop-first.first + c.fewer-n.result ≤ stations_in c.args.sheet.now = omega (arith, c.fewer-n.ensures, c.loop-first-test.true, c.stations-total.ensures) in
-    (c.requires.0.opened, omega (arith, c.fewer-n.ensures), within)
-
-pub overflow_add-first : goal.overflow_add-first
-overflow_add-first c = omega (arith, c.fewer-n.ensures, c.loop-first-test.true)
-
-pub loop-first-smaller : goal.loop-first-smaller
-loop-first-smaller c = omega (arith, c.fewer-n.ensures, c.loop-first-test.true)
+    let within : c.loop-first.first + c.min-n.result ≤ stations_in c.args.sheet.now = omega (arith, c.min-n.ensures, c.loop-first-test.true, c.stations-total.ensures) in
+    (c.requires.0.opened, omega (arith, c.min-n.ensures), within)

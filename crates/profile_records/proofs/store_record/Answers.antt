@@ -23,8 +23,8 @@ returns-in-At c =
       fields_len_unchanged = search rules;
       by_index = λ a o e w. record {
         on = λ z.
-            next-written a s.i (13 * s.i + 13 - 13 * s.i) o s.fields.now c.copy.new.out c.in-At.x w (e ∙ ap answer_of c.in-At.is) (omega arith)
-            (c.copy.ensures ∙ c.field_numbers.ensures);
+            next-written a s.i (13 * s.i + 13 - 13 * s.i) o s.fields.now c.copy_from_slice.new.self c.in-At.x w (e ∙ ap answer_of c.in-At.is) (omega arith)
+            (c.copy_from_slice.ensures.after ∙ c.field_numbers-numbers.ensures);
         over = λ m l z. absurd (z refl);
       };
     }

@@ -1,33 +1,27 @@
 -- `sheet_body::check_body` meets its contract: the causes 4 to 8 of a mesh, or 9 of a prism. Assumes nothing.
 use mathlib.Core.Path.{◌≡◌, sym, ◌∙◌}
 use mathlib.Core.Bool.{false}
-use mathlib.Core.List.{List}
 use mathlib.Core.Logic.{inr}
 use native.Mathlib.Omega.{arith}
-use lib.Ieee.{Float}
-use Rattle.newtonian.specs.declared.Vector.{Vector}
 use Rattle.sheet_rows.specs.Kinds.{is_mesh}
-use Rattle.sheet.specs.Input.{SheetInput, input_of}
+use Rattle.sheet.specs.Input.{source_input}
 use Rattle.sheet_body.proofs.Bodies.{mesh_checked, prism_checked}
 use Rattle.sheet_body.proofs.check_body.Goals as goal
 
 pub returns-then-is_mesh : goal.returns-then-is_mesh
 returns-then-is_mesh c =
-    let input : Vector → Vector → List Float → SheetInput = λ m b st. let a = c.args in input_of a.kind a.verts.now a.faces.now m b st in
-    λ m b st. let told = c.check_surface_with_mates.ensures in
-    mesh_checked (input m b st) (sym c.is_mesh.ensures ∙ c.if-is_mesh.true) told.value told.work_after told.mates_after
+    let told = c.check_surface_with_mates.ensures in
+    mesh_checked (source_input c.args.source.now) (sym c.is_mesh.ensures ∙ c.if-is_mesh.true) told.value told.work_after told.mates_after
 
 pub returns : goal.returns
 returns c =
-    let input : Vector → Vector → List Float → SheetInput = λ m b st. let a = c.args in input_of a.kind a.verts.now a.faces.now m b st in
-    let no-mesh : is_mesh c.args.kind ≡ false = sym c.is_mesh.ensures ∙ c.if-is_mesh.false in
-    λ m b st. let e = no-mesh in
-    prism_checked (input m b st) e (c.requires.1 e).1 c.args.work.now c.args.mates.now c.requires.2 c.check_prism.ensures
+    let no-mesh : is_mesh c.args.source.now.kind ≡ false = sym c.is_mesh.ensures ∙ c.if-is_mesh.false in
+    prism_checked (source_input c.args.source.now) no-mesh (c.requires.1 no-mesh).1 c.args.work.now c.args.mates.now c.requires.2 c.check_prism.ensures
 
 pub check_surface_with_mates-requires : goal.check_surface_with_mates-requires
 check_surface_with_mates-requires c = let h = c.requires in (h.0, inr h.2)
 
 pub check_prism-requires : goal.check_prism-requires
 check_prism-requires c =
-    let no-mesh : is_mesh c.args.kind ≡ false = sym c.is_mesh.ensures ∙ c.if-is_mesh.false in
+    let no-mesh : is_mesh c.args.source.now.kind ≡ false = sym c.is_mesh.ensures ∙ c.if-is_mesh.false in
     omega (arith, (c.requires.1 no-mesh).0)

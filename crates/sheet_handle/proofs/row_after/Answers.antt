@@ -5,7 +5,7 @@ use Rattle.sheet_handle.proofs.row_after.Goals as goal
 
 pub loop-i-init : goal.loop-i-init
 unfolding after_moves
-loop-i-init c = (omega arith, ap (λ (z : Bor (List ℕ)). z.now) c.new-h.ensures.0, c.new-h.ensures.1)
+loop-i-init c = (ap (λ (z : Bor (List ℕ)). z.now) c.new-h.ensures.0, c.new-h.ensures.1)
 
 -- one move more
 moved : (s t : List ℕ) (a i : ℕ) → t ≡ s → a ≡ after_moves s i → next_row_of t a ≡ after_moves s (i + 1)
@@ -16,7 +16,6 @@ pub loop-i-preserved : goal.loop-i-preserved
 loop-i-preserved c =
     let s = c.args.sheet.now in
     let h = c.loop-i.h in (
-      omega arith,
-      ap (λ (z : Bor (List ℕ)). z.now) c.next-h.ensures.0 ∙ c.loop-i.invariant.1,
-      c.next-h.ensures.1 ∙ moved s h.sheet.now h.at c.loop-i.i c.loop-i.invariant.1 c.loop-i.invariant.2,
+      ap (λ (z : Bor (List ℕ)). z.now) c.next-h.ensures.0 ∙ c.loop-i.invariant.0,
+      c.next-h.ensures.1 ∙ moved s h.sheet.now h.at c.loop-i._i c.loop-i.invariant.0 c.loop-i.invariant.1,
     )

@@ -1,34 +1,38 @@
--- `sheet_rows::all_finite` meets its contract: it is left to see whether the numbers from i on are finite. Assumes nothing.
-use mathlib.Core.Path.{◌≡◌, refl, sym, ap, ◌∙◌}
+-- `sheet_rows::all_finite` meets its contract. Assumes nothing.
+use Rattle.std.specs.Bool.{MatchBool}
+use Rattle.std.specs.List.{AllWithin, HoldsAt}
+use Rattle.std.proofs.lemmas.Iterator.{cases_from_all, YieldsList-from_slice}
+use mathlib.Core.Path.{◌≡◌, refl, sym}
 use mathlib.Core.Bool.{Bool, true, false, ◌&&◌}
-use mathlib.Core.List.{List}
-use Prim.Native.Nat.{ℕ, ◌+◌, ◌-◌, ◌<◌}
-use native.Mathlib.Numerals.{add-one}
+use mathlib.Core.List.{List, [], ◌∷◌}
+use Prim.Native.Nat.{ℕ, zero, suc, ◌<◌}
 use native.Mathlib.Omega.{arith}
 use lib.Ieee.{Float, nan}
 use lib.Ieee.Scale.{finite}
-use lib.ListN.{length, get_or, drop, drop_of_length-le}
-use lib.Seq.{drop-cons}
+use lib.ListN.{length, get_or}
+use borrow.Author.Rules.{rules}
+use borrow.Author.Tests.{tests}
 use Rattle.sheet_rows.specs.Row.{all_finite}
 use Rattle.sheet_rows.proofs.all_finite.Goals as goal
 
--- the numbers from i on: number i, and those from i + 1 on
-from : (xs : List Float) (i : ℕ) → i < length xs → (b : Bool) → finite (get_or xs i nan) ≡ b → all_finite (drop i xs) ≡ (b && all_finite (drop (i + 1) xs))
-from xs i h b e = rw (add-one, drop-cons xs i nan h, e)
+each : (xs : List Float) → ((k : ℕ) → k < length xs → finite (get_or xs k nan) ≡ true) → true ≡ all_finite xs
+each [] h = refl
+each (x ∷ xs) h = rw (h 0 (omega arith)) (each xs (λ k l. h (suc k) (omega arith)))
 
-pub returns-then-not-is_finite : goal.returns-then-not-is_finite
-returns-then-not-is_finite c = sym (c.loop-i.invariant.1 ∙ from c.args.numbers.now c.loop-i.i (omega arith) false (sym c.is_finite.ensures ∙ c.if-not-is_finite.true))
+and_false : (b : Bool) → false ≡ (b && false)
+and_false true = refl
+and_false false = refl
 
-pub loop-i-preserved : goal.loop-i-preserved
-loop-i-preserved c = (omega arith, c.loop-i.invariant.1 ∙ from c.args.numbers.now c.loop-i.i (omega arith) true (sym c.is_finite.ensures ∙ c.if-not-is_finite.false))
+one : (xs : List Float) (k : ℕ) → k < length xs → finite (get_or xs k nan) ≡ false → false ≡ all_finite xs
+one [] k l e = absurd (omega arith)
+one (x ∷ xs) zero l e = rw e
+one (x ∷ xs) (suc k) l e = rw (← one xs k (omega arith) e) (and_false (finite x))
+
+decided : (xs : List Float) (r : Bool) → MatchBool r (AllWithin (λ x. finite x ≡ true) xs 0 (length xs)) ((k : ℕ) × (k < length xs) × HoldsAt (λ x. finite x ≡ false) xs k) → r ≡ all_finite xs
+decided xs true h = each xs (λ k l. h k nan (omega arith) l)
+decided xs false h = one xs h.0 h.1 (h.2 nan)
 
 pub returns : goal.returns
 returns c =
-    let xs = c.args.numbers.now in
-    sym (c.loop-i.invariant.1 ∙ ap all_finite (drop_of_length-le xs {i = c.loop-i.i} (omega arith)))
-
-pub loop-i-init : goal.loop-i-init
-loop-i-init c = (omega arith, refl)
-
-pub is_finite-requires : goal.is_finite-requires
-is_finite-requires c = tt
+    decided c.args.numbers.now c.all.result
+    (cases_from_all _ _ _ (λ x. finite x ≡ true) (λ x. finite x ≡ false) c.all.ensures.ran (YieldsList-from_slice c.args.numbers.now cc) (λ x q k. search (rules, tests)) (λ x q k. search (rules, tests)))

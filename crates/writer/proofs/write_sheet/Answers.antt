@@ -43,7 +43,7 @@ returns-in-Refused-numbers c =
       stations = λ i. c.shared_slice_known-3-1.given i;
     } in
     let counts : (d : Cause) → c.lengths_cause-counts.result ≡ d → lengths_cause input (length work) (length out) ≡ d = λ d e. sym (c.lengths_cause-counts.ensures input (record { kind = refl; vertices = refl; faces = refl; stations = refl })) ∙ e in
-    let numbers : (d : Cause) → c.number_cause-numbers.result ≡ d → out_of_limits input ≡ d = λ d e. let a = c.args in sym (c.number_cause-numbers.ensures a.kind a.faces.now) ∙ e in
+    let numbers : (d : Cause) → c.number_cause-numbers.result ≡ d → out_of_limits input ≡ d = λ d e. sym c.number_cause-numbers.ensures ∙ e in
     by_limits input typed work out c.in-Refused-numbers.r (counts None c.in_default.is) (numbers (Refused c.in-Refused-numbers.r) c.in-Refused-numbers.is)
 
 pub returns : goal.returns
@@ -60,7 +60,7 @@ returns c =
       stations = λ i. c.shared_slice_known-3-1.given i;
     } in
     let counts : (d : Cause) → c.lengths_cause-counts.result ≡ d → lengths_cause input (length work) (length out) ≡ d = λ d e. sym (c.lengths_cause-counts.ensures input (record { kind = refl; vertices = refl; faces = refl; stations = refl })) ∙ e in
-    let numbers : (d : Cause) → c.number_cause-numbers.result ≡ d → out_of_limits input ≡ d = λ d e. let a = c.args in sym (c.number_cause-numbers.ensures a.kind a.faces.now) ∙ e in
+    let numbers : (d : Cause) → c.number_cause-numbers.result ≡ d → out_of_limits input ≡ d = λ d e. sym c.number_cause-numbers.ensures ∙ e in
     later input typed work out (counts None c.in_default.is) (numbers None c.in_default-numbers.is) c.write_counted.ensures
 
 pub write_counted-requires : goal.write_counted-requires

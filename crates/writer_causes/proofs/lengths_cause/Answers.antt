@@ -1,7 +1,6 @@
 -- `writer_causes::lengths_cause` meets its contract: the causes 1, 2 and 12 in order. Assumes nothing.
 use mathlib.Core.Path.{◌≡◌, sym, ◌∙◌}
 use mathlib.Core.Bool.{true}
-use Prim.{tt}
 use Prim.Native.Nat.{◌/◌}
 use native.Mathlib.Omega.{arith}
 use Rattle.sheet_rows.specs.Kinds.{within_counts}
@@ -39,12 +38,6 @@ returns c =
     let few : within_counts (c.args.verts / 3) (c.args.faces / 3) (c.args.stations / 3) ≡ true = sym c.within_counts.ensures ∙ c.if-not-within_counts.false in
     let a = c.args in
     counted a.work a.out a.kind a.verts a.faces a.stations formed few (omega arith) (omega (arith, c.sheet_length.ensures))
-
-pub well_formed-requires : goal.well_formed-requires
-well_formed-requires c = tt
-
-pub within_counts-requires : goal.within_counts-requires
-within_counts-requires c = tt
 
 pub sheet_length-requires : goal.sheet_length-requires
 sheet_length-requires c =

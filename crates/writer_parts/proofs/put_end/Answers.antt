@@ -10,10 +10,10 @@ use Rattle.writer_parts.proofs.put_end.Goals as goal
 
 pub returns-in-Refused : goal.returns-in-Refused
 returns-in-Refused c =
-    let trailer : List Part = let a = c.args in trailer_parts a.kind a.v a.f a.n a.magnetisation a.ambient a.volume (length a.out.now - trailer_length) in
+    let trailer : List Part = let a = c.args in let s = a.source.now in trailer_parts s.kind a.v a.f a.n s.magnetisation s.ambient a.volume (length a.out.now - trailer_length) in
     zeroed trailer c.args.out.now c.in-Refused.is c.put_zeros.ensures
 
 pub returns : goal.returns
 returns c =
-    let trailer : List Part = let a = c.args in trailer_parts a.kind a.v a.f a.n a.magnetisation a.ambient a.volume (length a.out.now - trailer_length) in
+    let trailer : List Part = let a = c.args in let s = a.source.now in trailer_parts s.kind a.v a.f a.n s.magnetisation s.ambient a.volume (length a.out.now - trailer_length) in
     ended trailer c.args.out.now c.in_default.is c.put_trailer.ensures

@@ -5,4 +5,5 @@ use Rattle.writer_parts.proofs.put_trailer.Goals as goal
 pub returns : goal.returns
 returns c =
     let a = c.args in
-    trailer a.kind a.v a.f a.n a.magnetisation a.ambient a.volume a.at a.out.now c.put_u32s.ensures c.put_f64s.ensures c.put_u64.ensures
+    let s = a.source.now in
+    trailer s.kind a.v a.f a.n s.magnetisation s.ambient a.volume a.at a.out.now c.put_u32s.ensures c.put_f64s.ensures c.put_u64.ensures

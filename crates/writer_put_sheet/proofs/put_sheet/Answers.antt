@@ -2,7 +2,7 @@
 use mathlib.Core.Path.{◌≡◌}
 use native.Mathlib.Omega.{arith}
 use lib.ListN.{length}
-use Rattle.sheet.specs.Input.{SheetInput, input_of}
+use Rattle.sheet.specs.Input.{SheetInput, source_input}
 use Rattle.writer_rows.proofs.RowLaws.{none-refused}
 use Rattle.writer_put_sheet.proofs.Pieces.{put-together}
 use Rattle.writer_put_sheet.proofs.put_sheet.Goals as goal
@@ -14,7 +14,7 @@ put_rows-cause-requires c =
 
 pub returns : goal.returns
 returns c =
-    let input : SheetInput = let a = c.args in input_of a.kind a.verts.now a.faces.now a.magnetisation a.ambient a.stations.now in
+    let input : SheetInput = source_input c.args.source.now in
     let same_size : length c.put_rows-cause.new.out ≡ length c.args.out.now = omega arith in
     let a = c.args in
     let put = c.put_rows-cause.ensures in

@@ -1,31 +1,28 @@
 -- `writer_rows::put_block` meets its contract: before turn j the rows of j more stations are written, and none of them is refused. Assumes nothing.
 use mathlib.Core.Path.{◌≡◌, refl, sym, ap, ◌∙◌, subst}
-use mathlib.Core.List.{List}
-use Prim.Native.Nat.{ℕ, ◌+◌, ◌*◌, ◌-◌}
+use Prim.Native.Nat.{ℕ, ◌+◌, ◌*◌}
 use native.Mathlib.Omega.{arith}
-use lib.Ieee.{Float}
 use Rattle.refusals.proofs.Causes.{more}
 use Rattle.sheet_rows.specs.Kinds.{row_width}
-use Rattle.sheet.specs.Input.{input_of}
+use Rattle.sheet.specs.Input.{source_input}
 use Rattle.sheet.specs.Writer.{station_cause}
-use Rattle.writer_rows.specs.Rows.{RowPut, FieldsAt, RowsUpTo}
+use Rattle.writer_rows.specs.Rows.{RowsUpTo}
 use Rattle.writer_rows.proofs.RowLaws.{not_none, next, row_written, row-left, up_to-refused}
 use Rattle.writer_rows.proofs.put_block.Goals as goal
 
 pub loop-j-init : goal.loop-j-init
-loop-j-init c = (omega arith, c.row_length-length.ensures, refl, λ v f st o q u. let z : c.args.first + 0 ≡ c.args.first = omega arith in rw z u)
+loop-j-init c = (c.row_length-length.ensures, refl, λ o q u. let z : c.args.first + 0 ≡ c.args.first = omega arith in rw z u)
 
 pub returns-in-Refused : goal.returns-in-Refused
 returns-in-Refused c =
-    let put : (v : List Float) (f : List ℕ) (st : List Float) → (let a = c.args in let i = a.first + c.loop-j.j in FieldsAt a.kind a.first a.n v f st a.fields → RowPut (input_of a.kind v f a.magnetisation a.ambient st) i (a.at + c.row_length-length.result * i) c.put_row-cause.result c.loop-j.out c.put_row-cause.new.out) = λ v f st q. c.put_row-cause.ensures v f st (q.at c.loop-j.j c.loop-j-test.true) in
     let a = c.args in
     let i = a.first + c.loop-j.j in
     let r = c.in-Refused.r in
     let told = c.in-Refused.is in
-    λ v f st o q u.
-    let s = input_of a.kind v f a.magnetisation a.ambient st in
-    let w = c.loop-j.invariant.3 v f st o q u in
-    let h = put v f st q in
+    λ o q u.
+    let s = source_input a.source.now in
+    let w = c.loop-j.invariant.2 o q u in
+    let h = c.put_row-cause.ensures (q.at c.loop-j.j c.loop-j-test.true) in
     record {
       on = λ z. absurd (not_none r z);
       over = λ x e l. up_to-refused s o a.at i r (omega (arith, c.loop-j-test.true)) w.none (sym h.cause ∙ told) (row-left s i _ h r told ∙ w.bytes);
@@ -33,18 +30,16 @@ returns-in-Refused c =
 
 pub loop-j-preserved : goal.loop-j-preserved
 loop-j-preserved c =
-    let place : (let i = c.args.first + c.loop-j.j in c.row_length-length.result * i ≡ 8 * row_width c.args.kind * i) = let i = c.args.first + c.loop-j.j in ap (λ (x : ℕ). x * i) c.loop-j.invariant.1 in
-    let put : (v : List Float) (f : List ℕ) (st : List Float) → (let a = c.args in let i = a.first + c.loop-j.j in FieldsAt a.kind a.first a.n v f st a.fields → RowPut (input_of a.kind v f a.magnetisation a.ambient st) i (a.at + c.row_length-length.result * i) c.put_row-cause.result c.loop-j.out c.put_row-cause.new.out) = λ v f st q. c.put_row-cause.ensures v f st (q.at c.loop-j.j c.loop-j-test.true) in
     let a = c.args in
     let i = a.first + c.loop-j.j in
+    let place : c.row_length-length.result * i ≡ 8 * row_width a.source.now.kind * i = ap (λ (x : ℕ). x * i) c.loop-j.invariant.0 in
     let told = c.in_default.is in (
-      omega (arith, c.loop-j-test.true),
-      c.loop-j.invariant.1,
-      omega (arith, c.loop-j.invariant.2),
-      λ v f st o q u.
-          let s = input_of a.kind v f a.magnetisation a.ambient st in
-          let w = c.loop-j.invariant.3 v f st o q u in
-          let h = put v f st q in
+      c.loop-j.invariant.0,
+      omega (arith, c.loop-j.invariant.1),
+      λ o q u.
+          let s = source_input a.source.now in
+          let w = c.loop-j.invariant.2 o q u in
+          let h = c.put_row-cause.ensures (q.at c.loop-j.j c.loop-j-test.true) in
           let z : i + 1 ≡ a.first + (c.loop-j.j + 1) = omega arith in
           subst (λ (k : ℕ). RowsUpTo s a.at k o c.put_row-cause.new.out) z
           (record {
@@ -57,7 +52,7 @@ pub returns : goal.returns
 returns c =
     let a = c.args in
     let e : c.loop-j.j ≡ a.n = omega arith in
-    λ v f st o q u. record { on = λ z. rw (← e) (c.loop-j.invariant.3 v f st o q u); over = λ x z. absurd (not_none x (sym z)) }
+    λ o q u. record { on = λ z. rw (← e) (c.loop-j.invariant.2 o q u); over = λ x z. absurd (not_none x (sym z)) }
 
 pub overflow_add-i : goal.overflow_add-i
 overflow_add-i c = omega (arith, c.requires.1, c.loop-j-test.true)
@@ -70,15 +65,15 @@ overflow_cast-i c = omega (arith, c.requires.1, c.loop-j-test.true)
 
 pub overflow_mul-length : goal.overflow_mul-length
 overflow_mul-length c =
-    let place : (let i = c.args.first + c.loop-j.j in c.row_length-length.result * i ≡ 8 * row_width c.args.kind * i) = let i = c.args.first + c.loop-j.j in ap (λ (x : ℕ). x * i) c.loop-j.invariant.1 in
+    let place : (let i = c.args.first + c.loop-j.j in c.row_length-length.result * i ≡ 8 * row_width c.args.source.now.kind * i) = let i = c.args.first + c.loop-j.j in ap (λ (x : ℕ). x * i) c.loop-j.invariant.0 in
     omega (arith, place, c.requires.1, c.loop-j-test.true)
 
 pub overflow_add-at : goal.overflow_add-at
 overflow_add-at c =
-    let place : (let i = c.args.first + c.loop-j.j in c.row_length-length.result * i ≡ 8 * row_width c.args.kind * i) = let i = c.args.first + c.loop-j.j in ap (λ (x : ℕ). x * i) c.loop-j.invariant.1 in
+    let place : (let i = c.args.first + c.loop-j.j in c.row_length-length.result * i ≡ 8 * row_width c.args.source.now.kind * i) = let i = c.args.first + c.loop-j.j in ap (λ (x : ℕ). x * i) c.loop-j.invariant.0 in
     omega (arith, place, c.requires.2, c.loop-j-test.true)
 
 pub put_row-cause-requires : goal.put_row-cause-requires
 put_row-cause-requires c =
-    let place : (let i = c.args.first + c.loop-j.j in c.row_length-length.result * i ≡ 8 * row_width c.args.kind * i) = let i = c.args.first + c.loop-j.j in ap (λ (x : ℕ). x * i) c.loop-j.invariant.1 in
-    omega (arith, place, c.loop-j.invariant.2, c.requires.2, c.loop-j-test.true)
+    let place : (let i = c.args.first + c.loop-j.j in c.row_length-length.result * i ≡ 8 * row_width c.args.source.now.kind * i) = let i = c.args.first + c.loop-j.j in ap (λ (x : ℕ). x * i) c.loop-j.invariant.0 in
+    omega (arith, place, c.loop-j.invariant.1, c.requires.2, c.loop-j-test.true)

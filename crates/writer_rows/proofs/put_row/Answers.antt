@@ -2,25 +2,22 @@
 use mathlib.Core.Path.{◌≡◌, refl, sym, ap, ◌∙◌}
 use mathlib.Core.Bool.{true, false}
 use mathlib.Core.List.{List}
-use Prim.Native.Nat.{ℕ}
 use lib.Seq.{sets}
 use lib.Ieee.{Float}
-use Rattle.newtonian.specs.Field as newtonian
-use Rattle.mesh.specs.Surface.{vertex}
 use Rattle.sheet_layout.specs.LittleEndian.{pack, bits}
-use Rattle.sheet_rows.specs.Row.{answer_of, field_at}
-use Rattle.sheet.specs.Input.{row_at, input_of}
+use Rattle.sheet_rows.specs.Row.{answer_of}
+use Rattle.sheet.specs.Input.{row_at, source_input}
 use Rattle.sheet.specs.Bytes.{numbers_of}
 use Rattle.writer_rows.proofs.RowLaws.{of_row, of_refused, row_is}
 use Rattle.writer_rows.proofs.put_row.Goals as goal
 
 pub returns-then-is_finite_row : goal.returns-then-is_finite_row
 returns-then-is_finite_row c =
-    let answered : (v : List Float) (f : List ℕ) (st : List Float) → (let a = c.args in newtonian.answer_of a.field ≡ field_at a.kind a.i (vertex st a.i) v f → answer_of c.row_of.result ≡ row_at (input_of a.kind v f a.magnetisation a.ambient st) a.i) = λ v f st h. let a = c.args in c.row_of.ensures ∙ row_is a.kind a.i a.magnetisation a.ambient v f st _ h in
-    λ v f st h.
+    λ h.
     let a = c.args in
-    let s = input_of a.kind v f a.magnetisation a.ambient st in
-    let given = sym (ap answer_of c.in-At.is) ∙ answered v f st h in
+    let s = source_input a.source.now in
+    let answered : answer_of c.row_of.result ≡ row_at s a.i = c.row_of.ensures ∙ row_is s.kind a.i s.magnetisation s.ambient s.vertices s.faces s.stations _ h in
+    let given = sym (ap answer_of c.in-At.is) ∙ answered in
     record {
       cause = of_row s a.i c.in-At.row true given (sym c.is_finite_row.ensures ∙ c.if-is_finite_row.true);
       bytes = c.put_f64s.ensures ∙ ap (λ (xs : List Float). sets a.out.now a.at (pack 8 (bits xs))) (c.row_numbers-numbers.ensures ∙ ap (numbers_of s) given);
@@ -28,19 +25,19 @@ returns-then-is_finite_row c =
 
 pub returns-in-Refused : goal.returns-in-Refused
 returns-in-Refused c =
-    let answered : (v : List Float) (f : List ℕ) (st : List Float) → (let a = c.args in newtonian.answer_of a.field ≡ field_at a.kind a.i (vertex st a.i) v f → answer_of c.row_of.result ≡ row_at (input_of a.kind v f a.magnetisation a.ambient st) a.i) = λ v f st h. let a = c.args in c.row_of.ensures ∙ row_is a.kind a.i a.magnetisation a.ambient v f st _ h in
-    λ v f st h.
+    λ h.
     let a = c.args in
-    let s = input_of a.kind v f a.magnetisation a.ambient st in
-    record { cause = of_refused s a.i c.in-Refused.r (sym (ap answer_of c.in-Refused.is) ∙ answered v f st h); bytes = refl }
+    let s = source_input a.source.now in
+    let answered : answer_of c.row_of.result ≡ row_at s a.i = c.row_of.ensures ∙ row_is s.kind a.i s.magnetisation s.ambient s.vertices s.faces s.stations _ h in
+    record { cause = of_refused s a.i c.in-Refused.r (sym (ap answer_of c.in-Refused.is) ∙ answered); bytes = refl }
 
 pub returns-else-is_finite_row : goal.returns-else-is_finite_row
 returns-else-is_finite_row c =
-    let answered : (v : List Float) (f : List ℕ) (st : List Float) → (let a = c.args in newtonian.answer_of a.field ≡ field_at a.kind a.i (vertex st a.i) v f → answer_of c.row_of.result ≡ row_at (input_of a.kind v f a.magnetisation a.ambient st) a.i) = λ v f st h. let a = c.args in c.row_of.ensures ∙ row_is a.kind a.i a.magnetisation a.ambient v f st _ h in
-    λ v f st h.
+    λ h.
     let a = c.args in
-    let s = input_of a.kind v f a.magnetisation a.ambient st in
+    let s = source_input a.source.now in
+    let answered : answer_of c.row_of.result ≡ row_at s a.i = c.row_of.ensures ∙ row_is s.kind a.i s.magnetisation s.ambient s.vertices s.faces s.stations _ h in
     record {
-      cause = of_row s a.i c.in-At.row false (sym (ap answer_of c.in-At.is) ∙ answered v f st h) (sym c.is_finite_row.ensures ∙ c.if-is_finite_row.false);
+      cause = of_row s a.i c.in-At.row false (sym (ap answer_of c.in-At.is) ∙ answered) (sym c.is_finite_row.ensures ∙ c.if-is_finite_row.false);
       bytes = refl;
     }
