@@ -30,26 +30,25 @@ fn values_of(r: Refusal) -> [u32; 2]
     ensures { result ≡ two (values_of r) }
 {
     match r {
-        Refusal::Malformed => [0, 0],
-        Refusal::TooMany => [0, 0],
-        Refusal::OutOfLimits => [0, 0],
-        Refusal::NoSuchVertex(face) => [face, 0],
-        Refusal::Flipped(from, to) => [from, to],
-        Refusal::Open(from, to) => [from, to],
-        Refusal::Degenerate(face) => [face, 0],
-        Refusal::Inverted => [0, 0],
-        Refusal::TooThin => [0, 0],
-        Refusal::TooDeep(station) => [station, 0],
-        Refusal::TooManyEdges(station) => [station, 0],
-        Refusal::TooShort => [0, 0],
-        Refusal::NotFinite(station) => [station, 0],
-        Refusal::OutsideDomain => [0, 0],
-        Refusal::TooManyRounds => [0, 0],
-        Refusal::WrongLength => [0, 0],
-        Refusal::WrongOrder => [0, 0],
-        Refusal::WrongMate => [0, 0],
-        Refusal::WrongVolume => [0, 0],
-        Refusal::WrongRow(station) => [station, 0],
+        Refusal::NoSuchVertex(place)
+        | Refusal::Degenerate(place)
+        | Refusal::TooDeep(place)
+        | Refusal::TooManyEdges(place)
+        | Refusal::NotFinite(place)
+        | Refusal::WrongRow(place) => [place, 0],
+        Refusal::Flipped(from, to) | Refusal::Open(from, to) => [from, to],
+        Refusal::Malformed
+        | Refusal::TooMany
+        | Refusal::OutOfLimits
+        | Refusal::Inverted
+        | Refusal::TooThin
+        | Refusal::TooShort
+        | Refusal::OutsideDomain
+        | Refusal::TooManyRounds
+        | Refusal::WrongLength
+        | Refusal::WrongOrder
+        | Refusal::WrongMate
+        | Refusal::WrongVolume => [0, 0],
     }
 }
 

@@ -7,10 +7,10 @@
 
 ghost use Rattle.std.specs.Prelude.{◌<◌, ◌≤◌, length};
 
-use sheet::Verdict;
+use sheet::{TRAILER_LENGTH, Verdict};
 use std::io;
 use std::io::{Read, Write};
-use test_replay::{Tally, lines};
+use test_replay::lines;
 
 fn is_accepted(sheet: &[u8]) -> bool {
     match checker::check_sheet(sheet) {
@@ -19,85 +19,87 @@ fn is_accepted(sheet: &[u8]) -> bool {
     }
 }
 
-const GIVEN: usize = 0;
-
-const REST: usize = 1;
-
 // Whether byte i of a sheet was given, as are vertices and faces, stations, and the trailer's first 64 bytes.
-fn part_of(sheet: &[u8], i: usize) -> usize
+fn was_given(sheet: &[u8], i: usize) -> bool
     requires { 80 ≤ length sheet.now }
 {
-    let at = sheet.len() - 80;
+    let at = sheet.len() - TRAILER_LENGTH;
     if at <= i {
-        return if i < at + 64 { GIVEN } else { REST };
+        return i < at + 64;
     }
-    let v = sheet_layout::u32_at(sheet, at + 4) as usize;
-    let f = sheet_layout::u32_at(sheet, at + 8) as usize;
-    let s = sheet_layout::u32_at(sheet, at + 12) as usize;
-    if i < 24 * v + 12 * f {
-        return GIVEN;
-    }
-    if i < 24 * v + 36 * f {
-        return REST;
-    }
-    if i < 24 * v + 36 * f + 24 * s {
-        return GIVEN;
-    }
-    REST
+    let v = sheet_readers::vertices(sheet) as usize;
+    let f = sheet_readers::faces(sheet) as usize;
+    let s = sheet_readers::stations(sheet) as usize;
+    let rest = 24 * v + 12 * f;
+    let stations = rest + 24 * f;
+    i < rest || (stations <= i && i < stations + 24 * s)
 }
 
-// Counts a flipped sheet, if it is accepted, as one that agrees if the writer writes it anew.
-fn counted(t: Tally, sheet: &[u8], part: usize) -> Tally
-    requires { length sheet.now ≤ 16384 }
-{
-    if !is_accepted(sheet) {
-        return t;
+// Of the sheets with a bit flipped in one part: how many are accepted, and how many of these the writer writes anew.
+#[derive(Clone, Copy, Default)]
+struct Part {
+    accepted: u64,
+    anew: u64,
+}
+
+impl Part {
+    fn count(&mut self, sheet: &[u8])
+        requires { length sheet.now ≤ 16384 }
+    {
+        if is_accepted(sheet) {
+            self.accepted = self.accepted.wrapping_add(1);
+            if test_rewrite::is_rewritten(sheet) {
+                self.anew = self.anew.wrapping_add(1);
+            }
+        }
     }
-    lines::count(t, part as u64, test_rewrite::is_rewritten(sheet))
-}
 
-// The sheet with bit k of byte i flipped. It is as it was afterwards.
-fn flip(t: Tally, sheet: &mut [u8], i: usize, k: u8) -> Tally
-    requires { (80 ≤ length sheet.old) × (length sheet.old ≤ 16384) × (i < length sheet.old) × (k < 8) }
-{
-    let part = part_of(sheet, i);
-    let before = sheet[i];
-    sheet[i] = before ^ (1u8 << k);
-    let more = counted(t, sheet, part);
-    sheet[i] = before;
-    more
-}
-
-// All sheets with one bit flipped.
-fn flip_all(sheet: &mut [u8]) -> Tally
-    requires { (80 ≤ length sheet.old) × (length sheet.old ≤ 16384) }
-{
-    let mut t = lines::nothing();
-    let bits = 8 * sheet.len();
-    for j in 0..bits {
-        t = flip(t, sheet, j / 8, (j % 8) as u8);
+    fn report(&self, output: &mut impl Write) -> io::Result<()> {
+        let Part { accepted, anew } = *self;
+        write!(
+            output,
+            "{accepted} accepted, of which the writer writes anew {anew}"
+        )
     }
-    t
 }
 
-// How many are accepted, and how many of these are written anew.
-fn report_part(output: &mut impl Write, t: Tally, part: usize) -> io::Result<()>
-    requires { part < 8 }
-{
-    let accepted = t.compared[part];
-    let anew = accepted.wrapping_sub(t.differ[part]);
-    write!(
-        output,
-        "{accepted} accepted, of which the writer writes anew {anew}"
-    )
+// The sheets with a bit flipped in what was given, and in the rest.
+#[derive(Clone, Copy, Default)]
+struct Flips {
+    given: Part,
+    rest: Part,
+}
+
+impl Flips {
+    // Counts the sheet with bit k of byte i flipped. It is as it was afterwards.
+    fn flip(&mut self, sheet: &mut [u8], i: usize, k: u8)
+        requires { (80 ≤ length sheet.old) × (length sheet.old ≤ 16384) × (i < length sheet.old) × (k < 8) }
+    {
+        let was_given = was_given(sheet, i);
+        sheet[i] ^= 1u8 << k;
+        if was_given {
+            self.given.count(sheet);
+        } else {
+            self.rest.count(sheet);
+        }
+        sheet[i] ^= 1u8 << k;
+    }
+
+    // All sheets with one bit flipped.
+    fn of(sheet: &mut [u8]) -> Flips
+        requires { (80 ≤ length sheet.old) × (length sheet.old ≤ 16384) }
+    {
+        let mut flips = Flips::default();
+        for j in 0..8 * sheet.len() {
+            flips.flip(sheet, j / 8, (j % 8) as u8);
+        }
+        flips
+    }
 }
 
 fn report(output: &mut impl Write, sheet: &mut [u8]) -> io::Result<()>
-    requires { length sheet.old ≤ 16384 }
+    requires { (80 ≤ length sheet.old) × (length sheet.old ≤ 16384) }
 {
-    if sheet.len() < 80 {
-        return Ok(());
-    }
     let length = sheet.len();
     let verdict = if is_accepted(sheet) {
         "accepted"
@@ -108,43 +110,31 @@ fn report(output: &mut impl Write, sheet: &mut [u8]) -> io::Result<()>
         output,
         "{length} bytes, {verdict}; with a bit flipped in what was given: "
     )?;
-    let t = flip_all(sheet);
-    report_part(output, t, GIVEN)?;
+    let flips = Flips::of(sheet);
+    flips.given.report(output)?;
     write!(output, "; in the rest: ")?;
-    report_part(output, t, REST)?;
+    flips.rest.report(output)?;
     writeln!(output)
 }
 
-// Reads as many bytes as `sheet` has.
-fn read_and_report(
-    input: &mut impl Read,
-    output: &mut impl Write,
-    sheet: &mut [u8],
-) -> io::Result<()>
-    requires { length sheet.old ≤ 16384 }
-{
-    if lines::read_line(input, sheet) {
-        return report(output, sheet);
+// Reads a sheet of that length, and reports on it. One that is shorter than a trailer, or is not there, is passed over.
+fn next_sheet(input: &mut impl Read, output: &mut impl Write, length: u32) -> io::Result<()> {
+    let mut bytes = [0; 16384];
+    let sheet = &mut bytes[..lines::small(length)];
+    if input.read_exact(sheet).is_err() || sheet.len() < TRAILER_LENGTH {
+        return Ok(());
     }
-    Ok(())
-}
-
-// The sheet that this length begins.
-fn next_sheet(input: &mut impl Read, output: &mut impl Write, head: &[u8; 4]) -> io::Result<()> {
-    let n = lines::small(sheet_layout::u32_at(head, 0));
-    let mut bytes = [0u8; 65536];
-    read_and_report(input, output, &mut bytes[..n])
+    report(output, sheet)
 }
 
 fn main(rt: HostRuntime) -> io::Result<()> {
     let mut input = rt.reader();
     let mut output = io::writer(&rt);
     for _ in 0..1000usize {
-        let mut head = [0u8; 4];
-        if !lines::read_line(&mut input, &mut head) {
+        let Some(head) = lines::read(&mut input) else {
             break;
-        }
-        next_sheet(&mut input, &mut output, &head)?;
+        };
+        next_sheet(&mut input, &mut output, u32::from_le_bytes(head))?;
     }
     Ok(())
 }

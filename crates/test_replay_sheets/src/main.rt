@@ -6,66 +6,41 @@
 
 ghost use Rattle.std.specs.Prelude.{◌≤◌, length};
 
-use sheet::Verdict;
+use sheet::{TRAILER_LENGTH, Verdict};
 use std::io;
 use std::io::Read;
 use test_replay::lines;
 
 // Whether the sheet is accepted with the kind and S that stand in its trailer.
-fn accepted(sheet: &[u8]) -> bool
+fn is_accepted(sheet: &[u8]) -> bool
     requires { 80 ≤ length sheet.now }
 {
-    let at = sheet.len() - 80;
     match checker::check_sheet(sheet) {
         Verdict::Accepted(kind, s) => {
-            if kind != sheet_layout::u32_at(sheet, at) {
-                return false;
-            }
-            s == sheet_layout::u32_at(sheet, at + 12)
+            kind == sheet_readers::kind(sheet) && s == sheet_readers::stations(sheet)
         }
         Verdict::Refused(_) => false,
     }
 }
 
-// Reads as many bytes as `sheet` has.
-fn holds(input: &mut impl Read, sheet: &mut [u8]) -> bool
-    requires { length sheet.old ≤ 16384 }
-{
-    if !lines::read_line(input, sheet) {
-        return false;
-    }
-    if sheet.len() < 80 {
-        return false;
-    }
-    if !accepted(sheet) {
-        return false;
-    }
-    test_rewrite::is_rewritten(sheet)
-}
-
-// The sheet that this length begins.
-fn sheet_holds(input: &mut impl Read, head: &[u8; 4]) -> bool {
-    let n = lines::small(sheet_layout::u32_at(head, 0));
-    let mut bytes = [0u8; 65536];
-    holds(input, &mut bytes[..n])
+// Whether the next sheet, of that length, is accepted and written anew.
+fn next_holds(input: &mut impl Read, length: u32) -> Option<bool> {
+    let mut bytes = [0; 16384];
+    let sheet = &mut bytes[..lines::small(length)];
+    input.read_exact(sheet).ok()?;
+    Some(sheet.len() >= TRAILER_LENGTH && is_accepted(sheet) && test_rewrite::is_rewritten(sheet))
 }
 
 fn main(rt: HostRuntime) -> io::Result<()> {
-    let mut input = rt.reader();
-    let mut output = io::writer(&rt);
-    let mut t = lines::nothing();
-    for _ in 0..1000000usize {
-        let mut head = [0u8; 4];
-        if !lines::read_line(&mut input, &mut head) {
-            break;
-        }
-        t = lines::count(t, 0, sheet_holds(&mut input, &head));
-    }
-    lines::report_as(
-        &mut output,
-        b"sheets: ",
-        b" accepted and written anew, ",
-        t,
+    let tally = lines::replay(&mut rt.reader(), |input, tally| {
+        let head: [u8; 4] = lines::read(input)?;
+        tally.count(Some(0), next_holds(input, u32::from_le_bytes(head)));
+        Some(())
+    });
+    tally.report_as(
+        &mut io::writer(&rt),
         0,
+        &["sheets"],
+        "accepted and written anew",
     )
 }
