@@ -89,14 +89,10 @@ impl Profile<'_> {
         } else {
             self.faces
         };
-        let same_work = work
-            .iter()
-            .enumerate()
-            .all(|(i, entry)| self.work_after(sorted, i) == Some(u64::from(*entry)));
-        let same_fields = fields
-            .iter()
-            .enumerate()
-            .all(|(i, x)| self.field_after(filled, i) == Some(doubles::to_bits(*x)));
+        let same_work = work.iter().enumerate().all(|(i, entry)| self.work_after(sorted, i)
+            == Some(u64::from(*entry)));
+        let same_fields = fields.iter().enumerate().all(|(i, x)| self.field_after(filled, i)
+            == Some(doubles::to_bits(*x)));
         same_work && same_fields
     }
 

@@ -49,10 +49,7 @@ fn body(line: &[u8]) -> Option<VectorAnswer> {
 }
 
 fn total_field(line: &[u8]) -> Option<NumberAnswer> {
-    Some(anomaly::total_field(
-        vector_at(line, 1)?,
-        vector_at(line, 4)?,
-    ))
+    Some(anomaly::total_field(vector_at(line, 1)?, vector_at(line, 4)?))
 }
 
 fn sphere(line: &[u8]) -> Option<VectorAnswer> {

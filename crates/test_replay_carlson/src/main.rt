@@ -38,9 +38,5 @@ fn main(rt: HostRuntime) -> io::Result<()> {
         tally.count(word_at(&line, 0), agrees(&line));
         Some(())
     });
-    tally.report(
-        &mut io::writer(&rt),
-        1,
-        &["rc", "ln", "atan", "atan2"],
-    )
+    tally.report(&mut io::writer(&rt), 1, &["rc", "ln", "atan", "atan2"])
 }
