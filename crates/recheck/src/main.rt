@@ -1,5 +1,4 @@
-// Reads a sheet of up to 65,536 bytes on standard input, and prints whether it is accepted. test_recheck_main is
-// this file by a link: a program is run on one input, and there it is a refused sheet.
+// Reads a sheet of up to 65,536 bytes on standard input, and prints whether it is accepted.
 #![tactic(auto)]
 
 use std::io;
