@@ -1,4 +1,5 @@
-// Reads a sheet of up to 65,536 bytes on standard input, and prints whether it is accepted.
+// The program `recheck` again, on a refused sheet. It stands twice because a program is run on one input: a main that
+// printed a constant would pass there and fail here.
 #![tactic(auto)]
 
 use std::io;
