@@ -51,7 +51,7 @@ def enums_and_flags():
         for m in re.finditer(r"(?m)^const NONE\b", text):
             yield path, text.count("\n", 0, m.start()) + 1, "a number for a missing value"
         for name, line, signature, clauses, body in functions(text):
-            if "-> bool" in signature and re.search(r": &mut (\[f64|Vectors|Sight)", signature):
+            if "-> bool" in signature and re.search(r": &mut (\[f64|Vectors|SeenFaces)", signature):
                 yield path, line, f"{name}: a flag beside a lent array"
             if re.search(r"\bkind: u32\b", signature) and "extern" not in signature:
                 yield path, line, f"{name}: a kind by its number"

@@ -5,7 +5,8 @@ use Rattle.std.specs.Prelude.{◌&&◌, Float}
 use Rattle.doubles.specs.Rounded.{◌⊕◌, ◌⊖◌, ◌⊗◌}
 use Rattle.doubles.specs.Constants.{10⁻⁷, -0·0}
 use Rattle.refusals.specs.Causes.{unless}
-use Rattle.refusals.specs.Answer.{Answer, value, or_answer}
+use Rattle.std.specs.Prelude.{Ok}
+use Rattle.refusals.specs.Answer.{Answer, or_answer}
 use Rattle.refusals.specs.declared.Refusal.TheVariants.{OutOfLimits}
 use Rattle.newtonian.specs.Vectors.{vector_within_limits}
 use Rattle.newtonian.specs.declared.Vector.{Vector}
@@ -33,4 +34,4 @@ body_of μ T m = record {
 
 -- the public call, refused by 3
 unfoldable pub body : Hessian → Vector → Answer Vector
-body T m = or_answer (unless (hessian_within_limits T && vector_within_limits m) OutOfLimits) (value (body_of μ₀/4π T m))
+body T m = or_answer (unless (hessian_within_limits T && vector_within_limits m) OutOfLimits) (Ok (body_of μ₀/4π T m))

@@ -1,5 +1,4 @@
 -- The magnetic anomaly of any uniformly magnetised body, and the total-field anomaly that it makes.
-pub mod Answers
 pub mod Limits
 pub mod Body
 pub mod TotalField

@@ -4,7 +4,8 @@ use Rattle.std.specs.Prelude.{Float}
 use Rattle.doubles.specs.Rounded.{◌⊕◌, ◌⊗◌, ◌⊘◌}
 use Rattle.doubles.specs.Constants.{2·0}
 use Rattle.refusals.specs.Causes.{unless}
-use Rattle.refusals.specs.Answer.{Answer, value, or_answer}
+use Rattle.std.specs.Prelude.{Ok}
+use Rattle.refusals.specs.Answer.{Answer, or_answer}
 use Rattle.refusals.specs.declared.Refusal.TheVariants.{OutOfLimits}
 use Rattle.newtonian.specs.Vectors.{add_vectors, dot, norm}
 use Rattle.newtonian.specs.declared.Vector.{Vector}
@@ -15,4 +16,4 @@ total_field_of F B = (2·0 ⊗ dot F B ⊕ dot B B) ⊘ (norm (add_vectors F B) 
 
 -- the public call, refused by 3
 unfoldable pub total_field : Vector → Vector → Answer Float
-total_field F B = or_answer (unless (both_within_limits F B) OutOfLimits) (value (total_field_of F B))
+total_field F B = or_answer (unless (both_within_limits F B) OutOfLimits) (Ok (total_field_of F B))

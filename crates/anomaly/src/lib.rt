@@ -3,7 +3,6 @@
 #![tactic(auto)]
 
 ghost use Rattle.std.specs.Prelude.{◌≡◌};
-ghost use Rattle.anomaly.specs.Answers.{vector_answer, number_answer};
 ghost use Rattle.anomaly.specs.Body.{trace, row_times, body_of, body};
 ghost use Rattle.anomaly.specs.Limits.{both_within_limits, hessian_within_limits};
 ghost use Rattle.anomaly.specs.TotalField.{total_field_of, total_field};
@@ -14,26 +13,16 @@ use refusals::Refusal;
 // μ₀/4π in T m/A.
 pub const C_M: f64 = 1e-7;
 
-#[derive(Clone, Copy)]
-pub enum VectorAnswer {
-    Value(Vector),
-    Refused(Refusal),
-}
-
-#[derive(Clone, Copy)]
-pub enum NumberAnswer {
-    Value(f64),
-    Refused(Refusal),
-}
-
 // ---- refusal 3's test of two vectors, and of nine numbers
 
+#[tactic(auto, unfolding(crate::specs::Limits::both_within_limits))]
 pub fn both_within_limits(a: Vector, b: Vector) -> bool
     ensures { result ≡ both_within_limits a b }
 {
     vector_within_limits(a) & vector_within_limits(b)
 }
 
+#[tactic(auto, unfolding(crate::specs::Limits::hessian_within_limits))]
 pub fn hessian_within_limits(hessian: Hessian) -> bool
     ensures { result ≡ hessian_within_limits hessian }
 {
@@ -44,6 +33,7 @@ pub fn hessian_within_limits(hessian: Hessian) -> bool
 
 // ---- any body
 
+#[tactic(auto, unfolding(crate::specs::Body::trace))]
 fn trace(t: Hessian) -> f64
     ensures { result ≡ trace t }
 {
@@ -51,6 +41,7 @@ fn trace(t: Hessian) -> f64
 }
 
 // A row of the Hessian times m, summed from -0.
+#[tactic(auto, unfolding(crate::specs::Body::row_times))]
 fn row_times(t: Vector, m: Vector) -> f64
     ensures { result ≡ row_times t m }
 {
@@ -58,6 +49,7 @@ fn row_times(t: Vector, m: Vector) -> f64
 }
 
 // The field for a value mu of μ₀/4π. What it is given is not tested.
+#[tactic(auto, unfolding(crate::specs::Body::body_of))]
 pub fn body_of(mu: f64, hessian: Hessian, magnetisation: Vector) -> Vector
     ensures { result ≡ body_of mu hessian magnetisation }
 {
@@ -72,18 +64,20 @@ pub fn body_of(mu: f64, hessian: Hessian, magnetisation: Vector) -> Vector
 
 // The field (T) of a body magnetised uniformly (A/m), from the Hessian of its unit-density
 // potential at a point, inside or outside; or refused by 3.
-pub fn body(hessian: Hessian, magnetisation: Vector) -> VectorAnswer
-    ensures { vector_answer result ≡ body hessian magnetisation }
+#[tactic(auto, unfolding(crate::specs::Body::body))]
+pub fn body(hessian: Hessian, magnetisation: Vector) -> Result<Vector, Refusal>
+    ensures { result ≡ body hessian magnetisation }
 {
     if hessian_within_limits(hessian) & vector_within_limits(magnetisation) {
-        return VectorAnswer::Value(body_of(C_M, hessian, magnetisation));
+        return Ok(body_of(C_M, hessian, magnetisation));
     }
-    VectorAnswer::Refused(Refusal::OutOfLimits)
+    Err(Refusal::OutOfLimits)
 }
 
 // ---- the total-field anomaly
 
 // Without the tests of refusal 3.
+#[tactic(auto, unfolding(crate::specs::TotalField::total_field_of))]
 pub fn total_field_of(ambient: Vector, anomaly: Vector) -> f64
     ensures { result ≡ total_field_of ambient anomaly }
 {
@@ -92,11 +86,12 @@ pub fn total_field_of(ambient: Vector, anomaly: Vector) -> f64
 }
 
 // The total-field anomaly (T): by how much an anomaly changes what a total-field magnetometer reads in the ambient field; or refused by 3.
-pub fn total_field(ambient: Vector, anomaly: Vector) -> NumberAnswer
-    ensures { number_answer result ≡ total_field ambient anomaly }
+#[tactic(auto, unfolding(crate::specs::TotalField::total_field))]
+pub fn total_field(ambient: Vector, anomaly: Vector) -> Result<f64, Refusal>
+    ensures { result ≡ total_field ambient anomaly }
 {
     if both_within_limits(ambient, anomaly) {
-        return NumberAnswer::Value(total_field_of(ambient, anomaly));
+        return Ok(total_field_of(ambient, anomaly));
     }
-    NumberAnswer::Refused(Refusal::OutOfLimits)
+    Err(Refusal::OutOfLimits)
 }

@@ -7,7 +7,8 @@ use Rattle.doubles.specs.Rounded.{◌⊖◌, ◌⊗◌, ◌⊘◌}
 use Rattle.doubles.specs.Constants.{0·0, 1·0, 2·0, π}
 use Rattle.doubles.specs.Magnitude.{within_limits}
 use Rattle.refusals.specs.Causes.{or_else, unless}
-use Rattle.refusals.specs.Answer.{Answer, value, or_answer}
+use Rattle.std.specs.Prelude.{Ok}
+use Rattle.refusals.specs.Answer.{Answer, or_answer}
 use Rattle.refusals.specs.declared.Refusal.TheVariants.{OutOfLimits, OutsideDomain}
 use Rattle.newtonian.specs.Vectors.{difference, dot, norm, over, diagonal}
 use Rattle.newtonian.specs.declared.Vector.{Vector}
@@ -68,4 +69,4 @@ unfoldable pub cylinder : Vector → Vector → Vector → Float → Vector → 
 cylinder p q axis a m =
     let n = norm axis in
     or_answer (or_else (unless (cylinder_within_limits p q axis a m) OutOfLimits) (unless (lt 0·0 a && lt 0·0 n) OutsideDomain))
-    (value (cylinder_of μ₀/4π p q (over axis n) a m))
+    (Ok (cylinder_of μ₀/4π p q (over axis n) a m))

@@ -1,15 +1,16 @@
-// The magnetic anomaly of a uniformly magnetised infinite cylinder.
+// The magnetic anomaly of a uniformly magnetised infinite cylinder. What describes it stays arguments, as C passes them: the formulas take the axis's unit vector in
+// place of the axis, and the rest apart.
 #![tactic(auto)]
 
 ghost use Rattle.std.specs.Prelude.{◌≡◌};
-ghost use Rattle.anomaly.specs.Answers.{vector_answer};
 ghost use Rattle.anomaly_cylinder.specs.Cylinder.{times_vector, minus_times, projector, cylinder_inside, line_row, cylinder_outside, cylinder_hessian, cylinder_of, cylinder_within_limits, cylinder};
 
-use anomaly::{VectorAnswer, body_of, both_within_limits};
+use anomaly::{body_of, both_within_limits};
 use newtonian::{Hessian, Vector, diagonal, over};
 use refusals::Refusal;
 
 // k v
+#[tactic(auto, unfolding(crate::specs::Cylinder::times_vector))]
 fn times_vector(k: f64, v: Vector) -> Vector
     ensures { result ≡ times_vector k v }
 {
@@ -21,6 +22,7 @@ fn times_vector(k: f64, v: Vector) -> Vector
 }
 
 // v - w u
+#[tactic(auto, unfolding(crate::specs::Cylinder::minus_times))]
 fn minus_times(v: Vector, w: f64, u: Vector) -> Vector
     ensures { result ≡ minus_times v w u }
 {
@@ -32,6 +34,7 @@ fn minus_times(v: Vector, w: f64, u: Vector) -> Vector
 }
 
 // The projector across the axis of unit vector u, I - u uᵀ.
+#[tactic(auto, unfolding(crate::specs::Cylinder::projector))]
 fn projector(u: Vector) -> Hessian
     ensures { result ≡ projector u }
 {
@@ -43,6 +46,7 @@ fn projector(u: Vector) -> Hessian
     }
 }
 
+#[tactic(auto, unfolding(crate::specs::Cylinder::cylinder_inside))]
 fn cylinder_inside(across: Hessian) -> Hessian
     ensures { result ≡ cylinder_inside across }
 {
@@ -55,6 +59,7 @@ fn cylinder_inside(across: Hessian) -> Hessian
 }
 
 // A row of k (2 ρ ρᵀ - r² P), where e is the row of the projector P.
+#[tactic(auto, unfolding(crate::specs::Cylinder::line_row))]
 fn line_row(k: f64, rhoi: f64, rho: Vector, r2: f64, e: Vector) -> Vector
     ensures { result ≡ line_row k rhoi rho r2 e }
 {
@@ -65,6 +70,7 @@ fn line_row(k: f64, rhoi: f64, rho: Vector, r2: f64, e: Vector) -> Vector
     }
 }
 
+#[tactic(auto, unfolding(crate::specs::Cylinder::cylinder_outside))]
 fn cylinder_outside(a: f64, rho: Vector, r2: f64, across: Hessian) -> Hessian
     ensures { result ≡ cylinder_outside a rho r2 across }
 {
@@ -76,6 +82,7 @@ fn cylinder_outside(a: f64, rho: Vector, r2: f64, across: Hessian) -> Hessian
     }
 }
 
+#[tactic(auto, unfolding(crate::specs::Cylinder::cylinder_hessian))]
 fn cylinder_hessian(a: f64, rho: Vector, across: Hessian) -> Hessian
     ensures { result ≡ cylinder_hessian a rho across }
 {
@@ -87,6 +94,7 @@ fn cylinder_hessian(a: f64, rho: Vector, across: Hessian) -> Hessian
 }
 
 // The cylinder's field for a value mu of μ₀/4π and the axis's unit vector u. What it is given is not tested.
+#[tactic(auto, unfolding(crate::specs::Cylinder::cylinder_of))]
 pub fn cylinder_of(mu: f64, p: Vector, point: Vector, u: Vector, a: f64, m: Vector) -> Vector
     ensures { result ≡ cylinder_of mu p point u a m }
 {
@@ -95,6 +103,7 @@ pub fn cylinder_of(mu: f64, p: Vector, point: Vector, u: Vector, a: f64, m: Vect
     body_of(mu, cylinder_hessian(a, rho, projector(u)), m)
 }
 
+#[tactic(auto, unfolding(crate::specs::Cylinder::cylinder_within_limits))]
 fn cylinder_within_limits(p: Vector, point: Vector, axis: Vector, a: f64, m: Vector) -> bool
     ensures { result ≡ cylinder_within_limits p point axis a m }
 {
@@ -103,15 +112,22 @@ fn cylinder_within_limits(p: Vector, point: Vector, axis: Vector, a: f64, m: Vec
 
 // The field (T) at p of an infinite cylinder of radius a (m) along `axis` through `point`, magnetised uniformly at
 // m (A/m); or refused by 3, or by 14 unless a > 0 and the axis's length, as computed, is above 0.
-pub fn cylinder(p: Vector, point: Vector, axis: Vector, a: f64, m: Vector) -> VectorAnswer
-    ensures { vector_answer result ≡ cylinder p point axis a m }
+#[tactic(auto, unfolding(crate::specs::Cylinder::cylinder))]
+pub fn cylinder(
+    p: Vector,
+    point: Vector,
+    axis: Vector,
+    a: f64,
+    m: Vector,
+) -> Result<Vector, Refusal>
+    ensures { result ≡ cylinder p point axis a m }
 {
     if cylinder_within_limits(p, point, axis, a, m) {
         let n = newtonian::norm(axis);
         if (0.0 < a) & (0.0 < n) {
-            return VectorAnswer::Value(cylinder_of(anomaly::C_M, p, point, over(axis, n), a, m));
+            return Ok(cylinder_of(anomaly::C_M, p, point, over(axis, n), a, m));
         }
-        return VectorAnswer::Refused(Refusal::OutsideDomain);
+        return Err(Refusal::OutsideDomain);
     }
-    VectorAnswer::Refused(Refusal::OutOfLimits)
+    Err(Refusal::OutOfLimits)
 }

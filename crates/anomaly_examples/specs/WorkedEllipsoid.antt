@@ -8,7 +8,8 @@ use Rattle.doubles.specs.Rounded.{◌⊖◌, ◌⊘◌}
 use Rattle.doubles.specs.Constants.{1·0, 2·0, 3·0, 10⁻¹⁵}
 use Rattle.doubles.specs.Magnitude.{abs, max}
 use Rattle.roots.specs.Root.{Root}
-use Rattle.refusals.specs.Answer.{Answer, value, refused}
+use Rattle.std.specs.Prelude.{Ok, Err}
+use Rattle.refusals.specs.Answer.{Answer}
 use Rattle.newtonian.specs.declared.Vector.{Vector}
 use Rattle.carlson.specs.Rounds.{rounds_from}
 use Rattle.carlson.specs.CarlsonLoop.{quarter, loop_test}
@@ -35,8 +36,8 @@ closer_than d f g = lt (abs (f ⊖ g)) d
 
 -- factors were given, and satisfy a test
 abbrev given_with : Answer Vector → (Vector → Bool) → Bool
-given_with (value v) t = t v
-given_with (refused r) t = false
+given_with (Ok v) t = t v
+given_with (Err r) t = false
 
 abbrev third : Float → Bool
 third f = closer_than 10⁻¹⁵ f (1·0 ⊘ 3·0)

@@ -7,7 +7,8 @@ use Rattle.doubles.specs.Constants.{0·0, 3·0, 4·0, π}
 use Rattle.doubles.specs.Magnitude.{within_limits}
 use Rattle.roots.specs.Root.{Root}
 use Rattle.refusals.specs.Causes.{or_else, unless}
-use Rattle.refusals.specs.Answer.{Answer, value, or_answer}
+use Rattle.std.specs.Prelude.{Ok}
+use Rattle.refusals.specs.Answer.{Answer, or_answer}
 use Rattle.refusals.specs.declared.Refusal.TheVariants.{OutOfLimits, OutsideDomain}
 use Rattle.newtonian.specs.Vectors.{difference, dot, diagonal, vector_within_limits}
 use Rattle.newtonian.specs.declared.Vector.{Vector}
@@ -46,4 +47,4 @@ sphere_within_limits p c a m = both_within_limits p c && vector_within_limits m 
 -- the public call, refused by 3, and by 14 unless a > 0
 unfoldable pub sphere : Vector → Vector → Float → Vector → Answer Vector
 sphere p c a m =
-    or_answer (or_else (unless (sphere_within_limits p c a m) OutOfLimits) (unless (lt 0·0 a) OutsideDomain)) (value (sphere_of μ₀/4π p c a m))
+    or_answer (or_else (unless (sphere_within_limits p c a m) OutOfLimits) (unless (lt 0·0 a) OutsideDomain)) (Ok (sphere_of μ₀/4π p c a m))

@@ -1,16 +1,16 @@
-// The magnetic anomaly of a uniformly magnetised sphere.
+// The magnetic anomaly of a uniformly magnetised sphere. Its centre, radius and magnetisation stay arguments, as C passes them: the formulas take them apart at once.
 #![tactic(auto)]
 
 ghost use Rattle.std.specs.Prelude.{◌≡◌};
-ghost use Rattle.anomaly.specs.Answers.{vector_answer};
 ghost use Rattle.anomaly_sphere.specs.Sphere.{dipole_row, sphere_outside, sphere_hessian, sphere_of, sphere_within_limits, sphere};
 
-use anomaly::{VectorAnswer, body_of, both_within_limits};
+use anomaly::{body_of, both_within_limits};
 use newtonian::{Hessian, Vector, diagonal};
 use refusals::Refusal;
 
 // A row of k (3 d dᵀ - r² I), where e is the row of r² I. The cylinder's rows multiply by r² here, in another order of
 // roundings, so they have a function of their own.
+#[tactic(auto, unfolding(crate::specs::Sphere::dipole_row))]
 fn dipole_row(k: f64, di: f64, d: Vector, e: Vector) -> Vector
     ensures { result ≡ dipole_row k di d e }
 {
@@ -21,6 +21,7 @@ fn dipole_row(k: f64, di: f64, d: Vector, e: Vector) -> Vector
     }
 }
 
+#[tactic(auto, unfolding(crate::specs::Sphere::sphere_outside))]
 fn sphere_outside(a: f64, d: Vector, r2: f64) -> Hessian
     ensures { result ≡ sphere_outside a d r2 }
 {
@@ -33,6 +34,7 @@ fn sphere_outside(a: f64, d: Vector, r2: f64) -> Hessian
     }
 }
 
+#[tactic(auto, unfolding(crate::specs::Sphere::sphere_hessian))]
 fn sphere_hessian(a: f64, d: Vector) -> Hessian
     ensures { result ≡ sphere_hessian a d }
 {
@@ -44,12 +46,14 @@ fn sphere_hessian(a: f64, d: Vector) -> Hessian
 }
 
 // The sphere's field for a value mu of μ₀/4π. What it is given is not tested.
+#[tactic(auto, unfolding(crate::specs::Sphere::sphere_of))]
 pub fn sphere_of(mu: f64, p: Vector, centre: Vector, a: f64, m: Vector) -> Vector
     ensures { result ≡ sphere_of mu p centre a m }
 {
     body_of(mu, sphere_hessian(a, newtonian::difference(p, centre)), m)
 }
 
+#[tactic(auto, unfolding(crate::specs::Sphere::sphere_within_limits))]
 fn sphere_within_limits(p: Vector, centre: Vector, a: f64, m: Vector) -> bool
     ensures { result ≡ sphere_within_limits p centre a m }
 {
@@ -58,14 +62,15 @@ fn sphere_within_limits(p: Vector, centre: Vector, a: f64, m: Vector) -> bool
 
 // The field (T) at p of a sphere of radius a (m), magnetised uniformly at m (A/m); or refused by 3, or by 14
 // unless a > 0.
-pub fn sphere(p: Vector, centre: Vector, a: f64, m: Vector) -> VectorAnswer
-    ensures { vector_answer result ≡ sphere p centre a m }
+#[tactic(auto, unfolding(crate::specs::Sphere::sphere))]
+pub fn sphere(p: Vector, centre: Vector, a: f64, m: Vector) -> Result<Vector, Refusal>
+    ensures { result ≡ sphere p centre a m }
 {
     if sphere_within_limits(p, centre, a, m) {
         if 0.0 < a {
-            return VectorAnswer::Value(sphere_of(anomaly::C_M, p, centre, a, m));
+            return Ok(sphere_of(anomaly::C_M, p, centre, a, m));
         }
-        return VectorAnswer::Refused(Refusal::OutsideDomain);
+        return Err(Refusal::OutsideDomain);
     }
-    VectorAnswer::Refused(Refusal::OutOfLimits)
+    Err(Refusal::OutOfLimits)
 }

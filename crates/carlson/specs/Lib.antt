@@ -3,7 +3,6 @@ pub mod Rounds
 pub mod RoundLaws
 pub mod Constants
 pub mod CarlsonLoop
-pub mod Answers
 pub mod Rc
 pub mod Logarithm
 pub mod LogarithmOfBits

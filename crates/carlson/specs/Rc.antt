@@ -8,15 +8,13 @@ use Rattle.doubles.specs.Constants.{0·0, 1·0, 2·0, 3·0, 7·0, 8·0, 9·0, 10
 use Rattle.doubles.specs.Magnitude.{abs}
 use Rattle.roots.specs.Root.{Root}
 use Rattle.refusals.specs.Causes.{unless}
+use Rattle.std.specs.Prelude.{Ok, Err}
 use Rattle.refusals.specs.Answer.{Answer, or_answer}
 use Rattle.refusals.specs.declared.Refusal.TheVariants.{OutsideDomain, TooManyRounds}
 use Rattle.carlson.specs.Constants.{[3ε]^-⅛, 22·0, 159·0, 208·0}
 use Rattle.carlson.specs.Rounds.{rounds}
 use Rattle.carlson.specs.CarlsonLoop.{max_rounds, quarter, loop_test}
-use Rattle.carlson.specs.Answers.{integral_answer}
 use Rattle.carlson.specs.declared.RoundC.{RoundC}
-use Rattle.carlson.specs.declared.Integral.{Integral}
-use Rattle.carlson.specs.declared.Integral.TheVariants.{Value, Refused}
 
 -- ---- y above zero
 
@@ -54,36 +52,36 @@ series_c s =
     ⊕ s ⊗ s ⊗ (3·0 ⊘ 10·0 ⊕ s ⊗ (1·0 ⊘ 7·0 ⊕ s ⊗ (3·0 ⊘ 8·0 ⊕ s ⊗ (9·0 ⊘ 22·0 ⊕ s ⊗ (159·0 ⊘ 208·0 ⊕ s ⊗ 9·0 ⊘ 8·0)))))
 
 -- the series at s = (y - A₀) / (4ⁿ Aₙ), over √Aₙ; refused where the test still holds
-abbrev pub ending : Float → Float → RoundC → Integral
+abbrev pub ending : Float → Float → RoundC → Answer Float
 ending x y d =
     let s = (y ⊖ A₀C x y) ⊗ d.f ⊘ d.a in
-    cond (test_c (QC x y) d) (Refused TooManyRounds) (Value (series_c s ⊘ Root d.a))
+    cond (test_c (QC x y) d) (Err TooManyRounds) (Ok (series_c s ⊘ Root d.a))
 
-unfoldable pub rc_above : Float → Float → Integral
+unfoldable pub rc_above : Float → Float → Answer Float
 rc_above x y = ending x y (duplications_c x y)
 
 -- ---- all y
 
 -- r times an integral: a refusal is passed on
-abbrev pub times_integral : Float → Integral → Integral
-times_integral r (Value v) = Value (r ⊗ v)
-times_integral r (Refused c) = Refused c
+abbrev pub times_integral : Float → Answer Float → Answer Float
+times_integral r (Ok v) = Ok (r ⊗ v)
+times_integral r (Err c) = Err c
 
 -- y = 0 gives ∞; y < 0 the Cauchy principal value √(x / (x - y)) R_C(x - y, -y) (Carlson's Eq. 2.13a), where -y is above zero
-unfoldable pub rc : Float → Float → Integral
+unfoldable pub rc : Float → Float → Answer Float
 rc x y =
-    cond (eq y 0·0) (Value +∞)
+    cond (eq y 0·0) (Ok +∞)
     (cond (lt y 0·0) (times_integral (Root (x ⊘ (x ⊖ y))) (rc_above (x ⊖ y) (neg y)))
     (rc_above x y))
 
 -- the public call, refused by 14 unless both are finite and x ≥ 0
 unfoldable pub carlson_rc : Float → Float → Answer Float
-carlson_rc x y = or_answer (unless (finite x && finite y && le 0·0 x) OutsideDomain) (integral_answer (rc x y))
+carlson_rc x y = or_answer (unless (finite x && finite y && le 0·0 x) OutsideDomain) (rc x y)
 
 -- its value, and d where it is refused
-abbrev pub value_or : Float → Integral → Float
-value_or d (Value v) = v
-value_or d (Refused c) = d
+abbrev pub value_or : Float → Answer Float → Float
+value_or d (Ok v) = v
+value_or d (Err c) = d
 
 unfoldable pub rc_or : Float → Float → Float → Float
 rc_or d x y = value_or d (rc x y)

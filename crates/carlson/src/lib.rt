@@ -1,4 +1,4 @@
-// Carlson's R_C, and ln, atan and atan2 by it.
+// Carlson's R_C, and ln, atan and atan2 by it. Arguments stay as the papers write them, one by one.
 #![tactic(auto)]
 
 ghost use Rattle.std.specs.Prelude.{◌≡◌, ℕ, ◌*◌, ◌^◌, ◌<◌, T};
@@ -8,7 +8,6 @@ ghost use Rattle.std.specs.Float.Ieee.Positive.{positive};
 ghost use Rattle.roots.specs.Root.{Root};
 ghost use Rattle.carlson.specs.CarlsonLoop.{max_rounds, loop_test};
 ghost use Rattle.carlson.specs.Rounds.{rounds, Steps, Rounds};
-ghost use Rattle.carlson.specs.Answers.{integral_answer};
 ghost use Rattle.carlson.specs.Rc.{duplicate_c, test_c, series_c, rc_above, times_integral, rc, carlson_rc, rc_value};
 ghost use Rattle.carlson.specs.Logarithm.{ln_at, ln};
 ghost use Rattle.carlson.specs.LogarithmOfBits.{ln_of_bits};
@@ -34,16 +33,9 @@ pub struct RoundC {
     pub n: u32,
 }
 
-// The answer of an elliptic integral. An inner call is refused by 15 alone.
-#[derive(Clone, Copy)]
-pub enum Integral {
-    Value(f64),
-    Refused(Refusal),
-}
-
 // ---- Rounds
 
-// Steps from `start` while the test holds, at most `max`.
+// Steps from `start` while the test holds, at most `max`: the loop counts them.
 pub fn repeat<S: Copy, T: Fn(S) -> bool, F: Fn(S) -> S>(max: u32, test: T, step: F, start: S) -> S
     requires tests { T.IsAlwaysCallable test }
     requires steps { (k : ℕ) (s : _) → k < max → Steps (F.post step) start k s → F.pre step s }
@@ -62,6 +54,7 @@ pub fn repeat<S: Copy, T: Fn(S) -> bool, F: Fn(S) -> S>(max: u32, test: T, step:
 // ---- R_C
 
 // 4^-n Q ≥ |A|, where f is 4^-n.
+#[tactic(auto, unfolding(crate::specs::CarlsonLoop::loop_test))]
 pub fn loop_test(q: f64, a: f64, f: f64) -> bool
     ensures { result ≡ loop_test q a f }
 {
@@ -79,6 +72,7 @@ fn root_of(x: f64) -> f64
 }
 
 // From round n to n + 1.
+#[tactic(auto, unfolding(crate::specs::Rc::duplicate_c, crate::specs::CarlsonLoop::quarter))]
 fn duplicate_c(s: RoundC) -> RoundC
     requires { s.n < max_rounds }
     ensures { result ≡ duplicate_c s }
@@ -94,6 +88,7 @@ fn duplicate_c(s: RoundC) -> RoundC
 }
 
 // The series that ends R_C.
+#[tactic(auto, unfolding(crate::specs::Rc::series_c))]
 pub fn series_c(s: f64) -> f64
     ensures { result ≡ series_c s }
 {
@@ -105,7 +100,7 @@ pub fn series_c(s: f64) -> f64
 }
 
 // R_C for y above zero.
-fn rc_above(x: f64, y: f64) -> Integral
+fn rc_above(x: f64, y: f64) -> Result<f64, Refusal>
     ensures { result ≡ rc_above x y }
 {
     let a0 = (x + 2.0 * y) / 3.0;
@@ -119,27 +114,25 @@ fn rc_above(x: f64, y: f64) -> Integral
     };
     let s = repeat(MAX_ROUNDS, |t| loop_test(q, t.a, t.f), duplicate_c, first);
     if loop_test(q, s.a, s.f) {
-        return Integral::Refused(Refusal::TooManyRounds);
+        return Err(Refusal::TooManyRounds);
     }
-    Integral::Value(series_c((y - a0) * s.f / s.a) / roots::root(s.a))
+    Ok(series_c((y - a0) * s.f / s.a) / roots::root(s.a))
 }
 
 // r times an integral, whose refusal is passed on.
-pub fn times_integral(r: f64, c: Integral) -> Integral
+pub fn times_integral(r: f64, c: Result<f64, Refusal>) -> Result<f64, Refusal>
     ensures { result ≡ times_integral r c }
 {
-    match c {
-        Integral::Value(v) => Integral::Value(r * v),
-        Integral::Refused(cause) => Integral::Refused(cause),
-    }
+    Ok(r * c?)
 }
 
 // R_C(x, y) without the tests of its domain: what inner calls use.
-pub fn rc(x: f64, y: f64) -> Integral
+#[tactic(auto, unfolding(crate::specs::Rc::rc))]
+pub fn rc(x: f64, y: f64) -> Result<f64, Refusal>
     ensures { result ≡ rc x y }
 {
     if y == 0.0 {
-        return Integral::Value(1.0 / 0.0);
+        return Ok(f64::INFINITY);
     }
     if y < 0.0 {
         return times_integral(roots::root(x / (x - y)), rc_above(x - y, -y));
@@ -149,29 +142,27 @@ pub fn rc(x: f64, y: f64) -> Integral
 
 // Carlson's R_C(x, y), for finite arguments with x ≥ 0: refused by 14 outside that domain, and by 15
 // where the loop's test still holds after MAX_ROUNDS.
-pub fn carlson_rc(x: f64, y: f64) -> Integral
-    ensures { integral_answer result ≡ carlson_rc x y }
+#[tactic(auto, unfolding(crate::specs::Rc::carlson_rc))]
+pub fn carlson_rc(x: f64, y: f64) -> Result<f64, Refusal>
+    ensures { result ≡ carlson_rc x y }
 {
     if doubles::is_finite(x) & doubles::is_finite(y) & (0.0 <= x) {
         return rc(x, y);
     }
-    Integral::Refused(Refusal::OutsideDomain)
+    Err(Refusal::OutsideDomain)
 }
 
 // R_C's value. It is not refused where ln, atan and atan2 call this.
 fn rc_value(x: f64, y: f64) -> f64
     ensures { result ≡ rc_value x y }
 {
-    let c = rc(x, y);
-    match c {
-        Integral::Value(v) => v,
-        Integral::Refused(_) => 0.0 / 0.0,
-    }
+    rc(x, y).unwrap_or(f64::NAN)
 }
 
 // ---- ln
 
 // k LN2 + (t - 1) R_C(h h, t), with h = (1 + t)/2.
+#[tactic(auto, unfolding(crate::specs::Logarithm::ln_at))]
 fn ln_at(k: f64, t: f64) -> f64
     ensures { result ≡ ln_at rc_value k t }
 {
@@ -227,13 +218,13 @@ pub fn ln(x: f64) -> f64
     ensures { result ≡ ln x }
 {
     if x == 0.0 {
-        return -1.0 / 0.0;
+        return f64::NEG_INFINITY;
     }
-    if x < 1.0 / 0.0 {
+    if x < f64::INFINITY {
         if 0.0 < x {
             return ln_above(x);
         }
-        return 0.0 / 0.0;
+        return f64::NAN;
     }
     x
 }
@@ -251,6 +242,7 @@ fn with_sign(z: f64, w: f64) -> f64
 }
 
 // The arctangent for |z| ≤ 1.
+#[tactic(auto, unfolding(crate::specs::Arctangent::atan_within))]
 fn atan_within(z: f64) -> f64
     ensures { result ≡ atan_within rc_value z }
 {

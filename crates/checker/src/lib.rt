@@ -5,23 +5,20 @@ ghost use Rattle.std.specs.Prelude.{◌≡◌, ℕ};
 ghost use Rattle.sheet.specs.Checker.{verdict_answer, check_sheet};
 ghost use Rattle.sheet.specs.Promises.{Right};
 
-use refusals::Cause;
-use sheet::Verdict;
+use refusals::Refusal;
+use sheet::Accepted;
+use sheet_readers::Sheet;
 
 // Checks a sheet: accepted, with the kind and S that stand in its trailer, or refused by the first cause of document 01's order. An accepted sheet is closed, of a
 // volume above 0, and in every byte what the definitions give.
-pub fn check_sheet(sheet: &[u8]) -> Verdict
+pub fn check_sheet(sheet: &[u8]) -> Result<Accepted, Refusal>
     ensures result_value { verdict_answer result ≡ check_sheet sheet.now }
-    ensures by_index { (k n : ℕ) → result ≡ Verdict.Accepted k n → Right sheet.now k n }
+    ensures by_index { (k n : ℕ) → result ≡ Ok (record { kind = k; stations = n }) → Right sheet.now k n }
 {
-    let opening = sheet_readers::opening_cause(sheet);
-    if let Cause::Refused(r) = opening {
-        return Verdict::Refused(r);
-    }
-    let outcome = checker_rooms::rooms::in_smallest_room(sheet);
-    let cause = outcome.cause;
-    if let Cause::Refused(r) = cause {
-        return Verdict::Refused(r);
-    }
-    Verdict::Accepted(sheet_readers::kind(sheet), sheet_readers::stations(sheet))
+    let opened = Sheet::open(sheet)?;
+    checker_rooms::rooms::in_smallest_room(opened)?;
+    Ok(Accepted {
+        kind: opened.trailer.kind,
+        stations: opened.trailer.stations,
+    })
 }

@@ -5,34 +5,28 @@ ghost use Rattle.std.specs.Prelude.{◌≡◌};
 ghost use Rattle.mesh.specs.Check.{solid_of};
 ghost use Rattle.sheet.specs.Bytes.{volume};
 ghost use Rattle.sheet.specs.Checker.{parse, solid_cause};
-ghost use Rattle.checker_lists.specs.Stages.{volume_cause, Ready};
+ghost use Rattle.checker_lists.specs.Stages.{volume_cause};
 
-use mesh::{Solid, surface};
-use refusals::{Cause, Refusal};
+use checker_lists::body::SheetBody;
+use refusals::Refusal;
 
 // The causes 7 and 8, or 9, or else the volume.
-fn check_solid(sheet: &[u8], verts: &[f64], faces: &[u32]) -> Solid
-    requires { Ready sheet.now verts.now faces.now }
-    ensures { result ≡ solid_of (solid_cause (parse sheet.now)) (volume (parse sheet.now)) }
+fn check_solid(body: SheetBody) -> Result<f64, Refusal>
+    ensures { let s = parse body.entry.sheet.bytes.now in result ≡ solid_of (solid_cause s) (volume s) }
 {
-    if sheet_rows::kinds::is_mesh(sheet_readers::kind(sheet)) {
-        return surface::check_faces(verts, faces);
+    if sheet_rows::kinds::is_mesh(body.sheet.trailer.kind) {
+        return body.mesh.check_faces();
     }
-    sheet_body::check_prism(verts)
+    sheet_body::check_prism(body.mesh.verts)
 }
 
 // The causes 7 and 8, or 9, then 19.
-pub fn volume_cause(sheet: &[u8], verts: &[f64], faces: &[u32]) -> Cause
-    requires { Ready sheet.now verts.now faces.now }
-    ensures { result ≡ volume_cause sheet.now }
+pub fn volume_cause(body: SheetBody) -> Result<(), Refusal>
+    ensures { result ≡ volume_cause body.entry.sheet.bytes.now }
 {
-    match check_solid(sheet, verts, faces) {
-        Solid::Refused(r) => Cause::Refused(r),
-        Solid::Volume(computed) => {
-            if sheet_readers::volume_bits(sheet) != doubles::to_bits(computed) {
-                return Cause::Refused(Refusal::WrongVolume);
-            }
-            Cause::None
-        }
+    let computed = check_solid(body)?;
+    if sheet_readers::volume_bits(body.sheet.bytes) != doubles::to_bits(computed) {
+        return Err(Refusal::WrongVolume);
     }
+    Ok(())
 }

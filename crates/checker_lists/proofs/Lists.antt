@@ -1,15 +1,15 @@
--- The lists of a sheet as they are read, and what is known of them once none of the causes 16, 1, 2, 3, 4, 17 and 18 holds: a body (`now_ready`) and its
--- order list (`in_order`). Assumes nothing.
-use mathlib.Core.Path.{◌≡◌, refl, sym, ap, ap₂, ◌∙◌}
+-- The lists of a sheet as they are read, and what is known of them once none of the causes 16, 1, 2, 3, 4, 17 and 18 holds: a body (`is_body`), whose prism has
+-- two corners (`two_corners`), and its order list (`in_order`). Assumes nothing.
+use mathlib.Core.Path.{◌≡◌, sym, ap, ap₂, ◌∙◌}
 use mathlib.Core.Bool.{Bool, true, false, ◌&&◌, ◌||◌}
 use mathlib.Core.List.{List}
-use Prim.Native.Nat.{ℕ, ◌*◌, ◌/◌}
+use Prim.Native.Nat.{ℕ, ◌*◌, ◌/◌, ◌≤◌}
 use native.Mathlib.Omega.{arith}
 use lib.Dec.{eqb}
 use lib.Ieee.{Float}
 use lib.ListN.{length}
 use borrow.Author.Tests.{eqb-true}
-use Rattle.refusals.specs.declared.Cause.TheVariants.{None}
+use Rattle.std.specs.Prelude.{Ok}
 use Rattle.refusals.specs.Causes.{or_else}
 use Rattle.refusals.proofs.Causes.{both}
 use Rattle.lists.proofs.Numbers as numbers
@@ -26,16 +26,16 @@ use Rattle.sheet_laws.specs.Reading.{faces-length}
 use Rattle.sheet_readers.proofs.Parsed.{vertices-length}
 use Rattle.sheet_layout.specs.LittleEndian.{unpack, doubles}
 use Rattle.sheet_layout.proofs.Lists.{unpack-length}
-use Rattle.checker_lists.specs.Stages.{indices_cause, lists_cause, Loaded, Ready}
+use Rattle.checker_lists.specs.Stages.{indices_cause, lists_cause, Loaded}
 
 second : (a b : Bool) → (a || b) ≡ true → a ≡ false → b ≡ true
 second true b e z = cc
 second false b e z = e
 
 -- a known kind that is no mesh has two vertices
-two-corners : (kind v f : ℕ) → known_kind kind v f ≡ true → is_mesh kind ≡ false → v ≡ 2
+vertices_of_prism : (kind v f : ℕ) → known_kind kind v f ≡ true → is_mesh kind ≡ false → v ≡ 2
 unfolding known_kind
-two-corners kind v f e z =
+vertices_of_prism kind v f e z =
     let t = (numbers.both (is_prism kind) (eqb v 2 && eqb f 0) (second (is_mesh kind) _ e z)).1 in
     eqb-true v 2 (numbers.both (eqb v 2) (eqb f 0) t).0
 
@@ -53,7 +53,7 @@ module _ (b : List ℕ) {n : ℕ} where
   order_loaded e p = rw (e, p)
 
 module _ (b : List ℕ) (h : Opened b) where
-  body : no_such_vertex (parse b) ≡ None → Body (parse b).vertices (parse b).faces
+  body : no_such_vertex (parse b) ≡ Ok tt → Body (parse b).vertices (parse b).faces
   unfolding no_such_vertex
   body e =
       let n = faces-length b in
@@ -64,25 +64,22 @@ module _ (b : List ℕ) (h : Opened b) where
         inside = inside;
       }
 
-  ready : no_such_vertex (parse b) ≡ None → Ready b (parse b).vertices (parse b).faces
-  ready e = record {
-    opened = h;
-    vertices = refl;
-    faces = refl;
-    body = body e;
-    corners = λ z. omega (arith, vertices-length b, two-corners (kind_in b) (vertices_in b) (faces_in b) h.known z);
-  }
-
-  none-order : lists_cause b ≡ None → (no_such_vertex (parse b) ≡ None) × (wrong_order (parse b).faces (order_in b) ≡ None) × (wrong_mate (parse b).faces (mates_in b) ≡ None)
+module _ (b : List ℕ) where
+  none-order : lists_cause b ≡ Ok tt → (no_such_vertex (parse b) ≡ Ok tt) × (wrong_order (parse b).faces (order_in b) ≡ Ok tt) × (wrong_mate (parse b).faces (mates_in b) ≡ Ok tt)
   unfolding lists_cause indices_cause
   none-order e =
       let q = both (no_such_vertex (parse b)) _ (both (out_of_limits (parse b)) _ e).1 in
       let r = both (wrong_order (parse b).faces (order_in b)) _ q.1 in
       (q.0, r.0, r.1)
 
-module _ (b : List ℕ) (v : List Float) (f o : List ℕ) (l : Loaded b v f o) (e : lists_cause b ≡ None) where
-  pub now_ready : Ready b v f
-  now_ready = rw (l.vertices, l.faces) (ready b l.opened (none-order b l.opened e).0)
+-- ---- the lists, of which none of 3, 4, 17 and 18 holds
+
+module _ (b : List ℕ) (h : Opened b) (v : List Float) (f o : List ℕ) (l : Loaded b v f o) (e : lists_cause b ≡ Ok tt) where
+  pub is_body : Body v f
+  is_body = rw (l.vertices, l.faces) (body b h (none-order b e).0)
+
+  pub two_corners : is_mesh (kind_in b) ≡ false → 6 ≤ length v
+  two_corners z = let n = ap length l.vertices ∙ vertices-length b in omega (arith, n, vertices_of_prism (kind_in b) (vertices_in b) (faces_in b) h.known z)
 
   pub order-length : length o ≡ 3 * faces_in b
   order-length = ap length l.order ∙ unpack-length 4 (3 * faces_in b) b _
@@ -90,7 +87,7 @@ module _ (b : List ℕ) (v : List Float) (f o : List ℕ) (l : Loaded b v f o) (
   pub in_order : o ≡ order_list f
   in_order =
       let n : length o ≡ length f = order-length ∙ sym (ap length l.faces ∙ faces-length b) in
-      is-order f o n (rw (l.faces, l.order) (none-order b l.opened e).1) now_ready.body.faces
+      is-order f o n (rw (l.faces, l.order) (none-order b e).1) is_body.faces
 
 -- ---- 4, 17 and 18 of the lists as they are read: f is the face list, o the order list
 

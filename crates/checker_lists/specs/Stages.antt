@@ -1,13 +1,10 @@
 -- The checker's causes in stages, as the code tries them after `opening_cause` (16, 1 and 2), and what is known at each. `b` is the sheet's bytes, `v`, `f` and `o` the
 -- vertices, faces and order list that were read from it. Definitions only; crate checker shows that the stages in order are `checker_cause`.
-use Rattle.std.specs.Prelude.{◌≡◌, false, List, ℕ, ◌*◌, ◌≤◌, Float, length}
+use Rattle.std.specs.Prelude.{◌≡◌, List, ℕ, ◌*◌, Float}
 use Rattle.refusals.specs.Causes.{or_else, first_of}
-use Rattle.refusals.specs.declared.Cause.{Cause}
-use Rattle.mesh.specs.Surface.{Body}
-use Rattle.sheet_rows.specs.Kinds.{is_mesh}
+use Rattle.refusals.specs.Causes.{Cause}
 use Rattle.sheet.specs.Writer.{out_of_limits, no_such_vertex}
-use Rattle.sheet.specs.Checker.{kind_in, vertices_in, faces_in, stations_in, parse, order_in, mates_in, wrong_order, wrong_mate, solid_cause, wrong_volume, check_station}
-use Rattle.sheet_readers.specs.Opened.{Opened}
+use Rattle.sheet.specs.Checker.{vertices_in, faces_in, stations_in, parse, order_in, mates_in, wrong_order, wrong_mate, solid_cause, wrong_volume, check_station}
 
 module _ (b : List ℕ) where
   -- 4, 17 and 18, of the lists of indices
@@ -26,24 +23,14 @@ module _ (b : List ℕ) where
   unfoldable pub stations_cause : Cause
   stations_cause = first_of (stations_in b) (check_station b (parse b))
 
--- room for the lists of a sheet that 16, 1 and 2 let through: v coordinates, f corners, an order list of o entries
+-- room for a sheet's lists: v coordinates, f corners, an order list of o entries
 pub record Room (b : List ℕ) (v f o : ℕ) : Type 0 where
-  pub opened : Opened b
   pub vertices : v ≡ 3 * vertices_in b
   pub faces : f ≡ 3 * faces_in b
   pub order : o ≡ 3 * faces_in b
 
 -- and the lists, read
 pub record Loaded (b : List ℕ) (v : List Float) (f o : List ℕ) : Type 0 where
-  pub opened : Opened b
   pub vertices : v ≡ (parse b).vertices
   pub faces : f ≡ (parse b).faces
   pub order : o ≡ order_in b
-
--- what 4 leaves of them: a body, whose prism has two corners
-pub record Ready (b : List ℕ) (v : List Float) (f : List ℕ) : Type 0 where
-  pub opened : Opened b
-  pub vertices : v ≡ (parse b).vertices
-  pub faces : f ≡ (parse b).faces
-  pub body : Body v f
-  pub corners : is_mesh (kind_in b) ≡ false → 6 ≤ length v

@@ -7,7 +7,7 @@ use native.Mathlib.Omega.{arith}
 use lib.Dec.{eqb, ltb}
 use lib.ListN.{length, get_or}
 use Rattle.refusals.specs.declared.Refusal.TheVariants.{WrongMate}
-use Rattle.refusals.specs.declared.Cause.TheVariants.{None, Refused}
+use Rattle.std.specs.Prelude.{Ok, Err}
 use Rattle.refusals.specs.Causes.{unless, first_of}
 use Rattle.lists.proofs.Numbers.{both}
 use Rattle.mesh_orders.specs.Edges.{edge_number, edge, reverse}
@@ -74,12 +74,12 @@ module _ (f m : List ℕ) (i : ℕ) where
 module _ (f m : List ℕ) where
   -- the mates below i are reverses
   abbrev pub Mates : ℕ → Type 0
-  Mates i = first_of i (λ j. unless (is_reverse f m j) WrongMate) ≡ None
+  Mates i = first_of i (λ j. unless (is_reverse f m j) WrongMate) ≡ Ok tt
 
   one_more : (i : ℕ) → Mates i → is_reverse f m i ≡ true → Mates (i + 1)
   one_more = scan_more (length f) (is_reverse f m) (λ j. WrongMate)
 
-  one_stop : (i : ℕ) → i < length f → Mates i → is_reverse f m i ≡ false → Refused WrongMate ≡ wrong_mate f m
+  one_stop : (i : ℕ) → i < length f → Mates i → is_reverse f m i ≡ false → Err WrongMate ≡ wrong_mate f m
   unfolding wrong_mate
   one_stop = scan_stop (length f) (is_reverse f m) (λ j. WrongMate)
 
@@ -97,7 +97,7 @@ module _ (f m : List ℕ) where
       let n : i + 1 + 1 + 1 ≡ i + 3 = omega arith in
       subst Mates n (one_more (i + 1 + 1) (one_more (i + 1) (one_more i h p.0) q.0) (third_at i q.1))
 
-  pub three_stop : (i : ℕ) → i + 2 < length f → Mates i → reverses f m i ≡ false → Refused WrongMate ≡ wrong_mate f m
+  pub three_stop : (i : ℕ) → i + 2 < length f → Mates i → reverses f m i ≡ false → Err WrongMate ≡ wrong_mate f m
   unfolding reverses
   three_stop i l h e =
       stopped (is_reverse f m i) (is_reverse f m (i + 1)) (is_reverse f m (i + 2)) e (λ x. one_stop i (omega arith) h x)

@@ -8,7 +8,7 @@ use lib.ListN.{length, get_or}
 use borrow.Author.Count.{below_more}
 use borrow.Author.Tests.{eq-eqb, lt-ltb}
 use Rattle.refusals.specs.declared.Refusal.TheVariants.{WrongMate}
-use Rattle.refusals.specs.declared.Cause.TheVariants.{None}
+use Rattle.std.specs.Prelude.{Ok}
 use Rattle.mesh_orders.specs.Edges.{from, to, edge_number, edge, reverse}
 use Rattle.sheet_layout.specs.LittleEndian.{number}
 use Rattle.mesh.specs.CauseLaws.{each_none}
@@ -68,6 +68,6 @@ module _ (f m : List ℕ) (h : Paired f m) where
       let c = h w a.within in
       rw (lt-ltb w (length f) a.within) (eq-eqb _ _ (ap₂ edge_number a.meets (sym c.meets ∙ ap (from f) a.back)))
 
-  pub no_wrong_mate : wrong_mate f m ≡ None
+  pub no_wrong_mate : wrong_mate f m ≡ Ok tt
   unfolding wrong_mate
   no_wrong_mate = each_none (length f) (is_reverse f m) (λ u. WrongMate) paired_reverse

@@ -1,4 +1,5 @@
-// The checker's scans of a sheet's order list and mates, once the order list is read.
+// The checker's scans of a sheet's order list and mates, once the order list is read. The mates are judged where they stand, so that the functions take the bytes and the
+// place of the mates in them, and the faces' corners by threes, by the first one's number.
 #![tactic(auto)]
 
 ghost use Rattle.std.specs.Prelude.{◌≡◌, true, ◌&&◌, ◌||◌, ◌+◌, ◌*◌, ◌%◌, ◌≤◌, ◌<◌, eqb, ltb, length, get_or};
@@ -10,7 +11,7 @@ ghost use Rattle.checker_order.specs.Reverses.{Listed, reverses};
 ghost use Rattle.checker_order.specs.Paired.{PairedFace, Paired};
 
 use mesh_orders::edges::{edge, number, start};
-use refusals::{Cause, Refusal};
+use refusals::Refusal;
 use sheet_layout::u32_at;
 
 // Whether edge e, at place i of the order list, is above the last one, if there is one.
@@ -20,7 +21,8 @@ fn is_above(i: usize, last: u64, e: u64) -> bool
     i == 0 || last < e
 }
 
-// The edge of use u. Where the mates are paired the mate of u leaves the vertex that u reaches, and no division by 3 is needed to find it.
+// The edge of use u. Where the mates are paired the mate of u leaves the vertex that u reaches, and no division by 3 is needed to find it. `paired` is what a test of all
+// mates gave, once for the sheet; the answer is the same.
 fn edge_of(faces: &[u32], sheet: &[u8], at: usize, paired: bool, u: u32) -> u64
     requires { IsUse faces.now u × (at + 4 * length faces.now ≤ length sheet.now) × (paired ≡ true → Paired faces.now (unpack 4 (length faces.now) sheet.now at)) }
     ensures { result ≡ edge faces.now u }
@@ -33,22 +35,28 @@ fn edge_of(faces: &[u32], sheet: &[u8], at: usize, paired: bool, u: u32) -> u64
 }
 
 // Cause 17: an entry of the order list that is no edge use, or whose edge does not ascend strictly. The mates stand from place at on.
-fn wrong_order(faces: &[u32], order: &[u32], sheet: &[u8], at: usize, paired: bool) -> Cause
+fn wrong_order(
+    faces: &[u32],
+    order: &[u32],
+    sheet: &[u8],
+    at: usize,
+    paired: bool,
+) -> Result<(), Refusal>
     requires { Listed faces.now order.now sheet.now at × (paired ≡ true → Paired faces.now (unpack 4 (length faces.now) sheet.now at)) }
     ensures { result ≡ wrong_order faces.now order.now }
 {
     let mut last = 0;
     for (i, u) in order.iter().enumerate() {
         if faces.len() <= *u as usize {
-            return Cause::Refused(Refusal::WrongOrder);
+            return Err(Refusal::WrongOrder);
         }
         let e = edge_of(faces, sheet, at, paired, *u);
         if !is_above(i, last, e) {
-            return Cause::Refused(Refusal::WrongOrder);
+            return Err(Refusal::WrongOrder);
         }
         last = e;
     }
-    Cause::None
+    Ok(())
 }
 
 // Whether w is an edge use that leaves vertex x and has the mate u.
@@ -113,30 +121,27 @@ fn are_reverses(faces: &[u32], sheet: &[u8], at: usize, i: usize) -> bool
 }
 
 // Cause 18: a mate, of those from place at on, that is no edge use, or not the reverse.
-fn wrong_mate(faces: &[u32], sheet: &[u8], at: usize) -> Cause
+fn wrong_mate(faces: &[u32], sheet: &[u8], at: usize) -> Result<(), Refusal>
     requires { (length faces.now % 3 ≡ 0) × (length faces.now ≤ 3 * max_faces) × (at + 4 * length faces.now ≤ length sheet.now) }
     ensures { result ≡ wrong_mate faces.now (unpack 4 (length faces.now) sheet.now at) }
 {
     for i in (0..faces.len()).step_by(3) {
         if !are_reverses(faces, sheet, at, i) {
-            return Cause::Refused(Refusal::WrongMate);
+            return Err(Refusal::WrongMate);
         }
     }
-    Cause::None
+    Ok(())
 }
 
 // The causes 17 and 18, with the mates from place at on. Paired mates are reverses; only where they are not is each tested as the definition has it.
-pub fn wrong_lists(faces: &[u32], order: &[u32], sheet: &[u8], at: usize) -> Cause
+pub fn wrong_lists(faces: &[u32], order: &[u32], sheet: &[u8], at: usize) -> Result<(), Refusal>
     requires { Listed faces.now order.now sheet.now at }
     ensures { result ≡ or_else (wrong_order faces.now order.now) (wrong_mate faces.now (unpack 4 (length faces.now) sheet.now at)) }
 {
     let paired = all_paired(faces, sheet, at);
-    let disorder = wrong_order(faces, order, sheet, at, paired);
-    if let Cause::Refused(r) = disorder {
-        return Cause::Refused(r);
-    }
+    wrong_order(faces, order, sheet, at, paired)?;
     if paired {
-        return Cause::None;
+        return Ok(());
     }
     wrong_mate(faces, sheet, at)
 }

@@ -2,17 +2,17 @@
 ghost use Rattle.std.specs.Prelude.{◌≡◌, ◌&&◌, ◌*◌, ◌≤◌, ◌<◌, leb};
 ghost use Rattle.mesh_orders.specs.Edges.{max_vertices, max_faces};
 ghost use Rattle.sheet.specs.Checker.{vertices_in, faces_in};
-ghost use Rattle.sheet_readers.specs.Opened.{Opened};
-ghost use Rattle.checker_rooms.specs.Later.{later_outcome};
+ghost use Rattle.checker_rooms.specs.Later.{later_cause};
 
 use crate::stages::in_room;
-use checker_stations::Outcome;
+use refusals::Refusal;
+use sheet_readers::Sheet;
 
 // In room for V / 3 vertices and U / 3 faces. Each room keeps a stack frame of its own, as in mesh_check: in one frame every body would touch the pages of the largest.
 #[inline(never)]
-fn in_room_of<const V: usize, const U: usize>(sheet: &[u8]) -> Outcome
-    requires { (V ≤ 3 * max_vertices) × (U ≤ 3 * max_faces) × Opened sheet.now × (3 * vertices_in sheet.now ≤ V) × (3 * faces_in sheet.now ≤ U) }
-    ensures { result ≡ later_outcome sheet.now }
+fn in_room_of<const V: usize, const U: usize>(sheet: Sheet) -> Result<(), Refusal>
+    requires { (V ≤ 3 * max_vertices) × (U ≤ 3 * max_faces) × (3 * vertices_in sheet.bytes.now ≤ V) × (3 * faces_in sheet.bytes.now ≤ U) }
+    ensures { result ≡ later_cause sheet.entry.bytes.now }
 {
     let mut verts = [0.0; V];
     let mut faces = [0; U];
@@ -21,20 +21,19 @@ fn in_room_of<const V: usize, const U: usize>(sheet: &[u8]) -> Outcome
 }
 
 // Whether room for n vertices and twice as many faces holds the body.
-fn fits(sheet: &[u8], n: u32) -> bool
-    requires { Opened sheet.now × (n < 4 * max_vertices) }
-    ensures { result ≡ (leb (vertices_in sheet.now) n && leb (faces_in sheet.now) (2 * n)) }
+fn fits(sheet: Sheet, n: u32) -> bool
+    requires { n < 4 * max_vertices }
+    ensures { result ≡ (leb (vertices_in sheet.entry.bytes.now) n && leb (faces_in sheet.entry.bytes.now) (2 * n)) }
 {
-    if n < sheet_readers::vertices(sheet) {
+    if n < sheet.trailer.vertices {
         return false;
     }
-    sheet_readers::faces(sheet) <= 2 * n
+    sheet.trailer.faces <= 2 * n
 }
 
 // The stages after the opening, in the smallest room that holds the body; the last holds every body within document 01's limits.
-pub fn in_smallest_room(sheet: &[u8]) -> Outcome
-    requires { Opened sheet.now }
-    ensures { result ≡ later_outcome sheet.now }
+pub fn in_smallest_room(sheet: Sheet) -> Result<(), Refusal>
+    ensures { result ≡ later_cause sheet.entry.bytes.now }
 {
     if fits(sheet, 40) {
         return in_room_of::<120, 240>(sheet);

@@ -9,21 +9,21 @@ ghost use Rattle.sheet_rows.specs.Row.{row_numbers};
 ghost use Rattle.sheet.specs.Checker.{same_numbers};
 
 use doubles::{to_bits, within_limits};
-use refusals::{Cause, Refusal};
+use refusals::Refusal;
 use sheet_layout::{f64_at, u64_at};
 use sheet_rows::Row;
 
-// Cause 3 of the n doubles from place at on.
-pub fn out_of_limits_at(sheet: &[u8], at: usize, n: usize) -> Cause
+// Cause 3 of the n doubles from place at on, by their number: they are read where they stand.
+pub fn out_of_limits_at(sheet: &[u8], at: usize, n: usize) -> Result<(), Refusal>
     requires { at + 8 * n ≤ length sheet.now }
     ensures { result ≡ out_of_limits (doubles (unpack 8 n sheet.now at)) }
 {
     for i in 0..n {
         if !within_limits(f64_at(sheet, at + 8 * i)) {
-            return Cause::Refused(Refusal::OutOfLimits);
+            return Err(Refusal::OutOfLimits);
         }
     }
-    Cause::None
+    Ok(())
 }
 
 // Whether the doubles from place at on have the bits of xs.

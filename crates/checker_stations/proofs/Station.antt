@@ -1,13 +1,13 @@
 -- The row of a station, as it is computed from what was read, and the causes 10 or 11, 13 and 20 of it. Assumes nothing.
-use mathlib.Core.Path.{◌≡◌, sym, ap, ap₂, ◌∙◌}
+use mathlib.Core.Path.{◌≡◌, sym, ap₂, ◌∙◌}
 use mathlib.Core.Bool.{true, false}
 use mathlib.Core.List.{List}
 use Prim.Native.Nat.{ℕ, ◌+◌, ◌*◌, ◌<◌}
 use lib.Ieee.{Float}
-use Rattle.refusals.specs.Answer.{Answer, value, refused}
+use Rattle.std.specs.Prelude.{Ok, Err}
+use Rattle.refusals.specs.Answer.{Answer}
 use Rattle.refusals.specs.declared.Refusal.{Refusal}
 use Rattle.refusals.specs.declared.Refusal.TheVariants.{WrongRow}
-use Rattle.refusals.specs.declared.Cause.TheVariants.{None, Refused}
 use Rattle.newtonian.specs.declared.Newtonian.{Newtonian}
 use Rattle.newtonian.specs.declared.Vector.{Vector}
 use Rattle.mesh.specs.Surface.{vertex}
@@ -21,8 +21,20 @@ use Rattle.sheet.specs.Input.{row_at}
 use Rattle.sheet.specs.Writer.{station_cause}
 use Rattle.sheet.specs.Checker.{kind_in, stations_in, stations_start, row_start, vector_in, parse, same_numbers, wrong_row, check_station}
 use Rattle.sheet_laws.specs.Reading.{kind_read}
+use Rattle.sheet_readers.specs.Parts.{InTrailer}
+use Rattle.sheet_readers.specs.declared.TrailerFields.{TrailerFields}
 use Rattle.checker_scans.proofs.Read.{vertex_read}
 use Rattle.checker_stations.specs.FieldIn.{field_in}
+
+-- what was read of the trailer is what the sheet was made from
+module _ (b : List ℕ) {t : TrailerFields} (r : InTrailer b t) where
+  pub read_magnetisation : t.magnetisation ≡ (parse b).magnetisation
+  unfolding parse
+  read_magnetisation = r.magnetisation
+
+  pub read_ambient : t.ambient ≡ (parse b).ambient
+  unfolding parse
+  read_ambient = r.ambient
 
 module _ (b : List ℕ) (i : ℕ) where
   pub row_is : (m a : Vector) (q : Answer Newtonian) → m ≡ (parse b).magnetisation → a ≡ (parse b).ambient → q ≡ field_in b i → in_row (kind_in b) m a q ≡ row_at (parse b) i
@@ -38,27 +50,25 @@ module _ (b : List ℕ) (i : ℕ) where
   unfolding parse
   place_is p l e = e ∙ sym (vertex_read b (stations_start b) (stations_in b) i l)
 
-  module _ (answer : Answer Row) (w : answer ≡ row_at (parse b) i) where
-    cause-is : station_cause (parse b) i ≡ row.row_cause (kind_in b) i answer
+  -- a refused row has no numbers to compare
+  pub no_row : (r : Refusal) → Err r ≡ row_at (parse b) i → Err r ≡ check_station b (parse b) i
+  unfolding check_station station_cause row.row_cause
+  no_row r w = rw (← w)
+
+  module _ (r : Row) (w : Ok r ≡ row_at (parse b) i) where
+    cause-is : station_cause (parse b) i ≡ row.row_cause (kind_in b) i (Ok r)
     unfolding station_cause
     cause-is = ap₂ (λ (k : ℕ) (x : Answer Row). row.row_cause k i x) (kind_read b) (sym w)
 
-    pub refused-by : (r : Refusal) → row.row_cause (kind_in b) i answer ≡ Refused r → Refused r ≡ check_station b (parse b) i
+    pub refused-by : (x : Refusal) → row.row_cause (kind_in b) i (Ok r) ≡ Err x → Err x ≡ check_station b (parse b) i
     unfolding check_station
-    refused-by r e = rw (cause-is ∙ e)
+    refused-by x e = rw (cause-is ∙ e)
 
-    module _ (e : row.row_cause (kind_in b) i answer ≡ None) where
-      pub same_bits : (r : Row) → answer ≡ value r → same_numbers (unpack 8 (row_width (kind_in b)) b (row_start b i)) (bits (row.row_numbers (kind_in b) r)) ≡ true
-          → None ≡ check_station b (parse b) i
+    module _ (e : row.row_cause (kind_in b) i (Ok r) ≡ Ok tt) where
+      pub same_bits : same_numbers (unpack 8 (row_width (kind_in b)) b (row_start b i)) (bits (row.row_numbers (kind_in b) r)) ≡ true → Ok tt ≡ check_station b (parse b) i
       unfolding check_station wrong_row
-      same_bits r g t = rw (cause-is ∙ e, sym w ∙ g, kind_read b, t)
+      same_bits t = rw (cause-is ∙ e, sym w, kind_read b, t)
 
-      pub other-bits : (r : Row) → answer ≡ value r → same_numbers (unpack 8 (row_width (kind_in b)) b (row_start b i)) (bits (row.row_numbers (kind_in b) r)) ≡ false
-          → Refused (WrongRow i) ≡ check_station b (parse b) i
+      pub other-bits : same_numbers (unpack 8 (row_width (kind_in b)) b (row_start b i)) (bits (row.row_numbers (kind_in b) r)) ≡ false → Err (WrongRow i) ≡ check_station b (parse b) i
       unfolding check_station wrong_row
-      other-bits r g t = rw (cause-is ∙ e, sym w ∙ g, kind_read b, t)
-
-      -- a refused row has no numbers to compare
-      pub no_bits : (x : Refusal) → answer ≡ refused x → Refused (WrongRow i) ≡ check_station b (parse b) i
-      unfolding check_station wrong_row unpack
-      no_bits x g = rw (cause-is ∙ e, sym w ∙ g)
+      other-bits t = rw (cause-is ∙ e, sym w, kind_read b, t)

@@ -1,3 +1,2 @@
--- What the check of the stations hands up: Outcome. FieldIn is for the contracts of inner functions.
+-- For the contracts of inner functions: FieldIn.
 pub mod FieldIn
-pub mod Outcome

@@ -3,126 +3,112 @@
 
 ghost use Rattle.std.specs.Prelude.{◌≡◌, ℕ, ◌+◌, ◌≤◌, ◌<◌, get_or};
 ghost use Rattle.refusals.specs.Causes.{first_of};
-ghost use Rattle.refusals.specs.declared.Cause.TheVariants.{None};
-ghost use Rattle.newtonian.specs.Field.{answer_of};
+ghost use Rattle.mesh_orders.specs.Order.{order_list};
 ghost use Rattle.mesh.specs.Surface.{vertex};
 ghost use Rattle.polyhedron_blocks.specs.Blocks.{block_size, no_vector};
 ghost use Rattle.polyhedron_fields.specs.BlockFields.{no_field};
 ghost use Rattle.sheet_rows.specs.BodyWithCenter.{center_of};
 ghost use Rattle.sheet.specs.Checker.{kind_in, stations_in, parse, check_station};
-ghost use Rattle.sheet_readers.specs.Opened.{Opened};
-ghost use Rattle.checker_lists.specs.Stages.{lists_cause, Loaded, Ready};
+ghost use Rattle.checker_lists.specs.Stages.{stations_cause};
 ghost use Rattle.checker_stations.specs.FieldIn.{field_in};
-ghost use Rattle.checker_stations.specs.Outcome.{refused_by, stations_outcome};
 
-use newtonian::{Field, Vector};
+use checker_lists::body::SheetBody;
+use newtonian::{Newtonian, Vector};
 use polyhedron_blocks::STATIONS;
-use refusals::{Cause, Refusal};
-use sheet_readers::{STATION_LENGTH, vector_at};
-use sheet_rows::{Center, RowAnswer};
+use polyhedron_fields::stations::StationRange;
+use refusals::Refusal;
+use sheet_readers::Sheet;
+use sheet_rows::Center;
 
-// What the stations' check hands up: the first cause, or none.
-#[derive(Clone, Copy)]
-pub struct Outcome {
-    pub cause: Cause,
+// Station i, of which the field is given.
+fn check_station(sheet: Sheet, i: u32, field: Result<Newtonian, Refusal>) -> Result<(), Refusal>
+    requires { let b = sheet.bytes.now in (i < stations_in b) × (field ≡ field_in b i) }
+    ensures { let b = sheet.entry.bytes.now in result ≡ check_station b (parse b) i }
+{
+    let t = sheet.trailer;
+    let row = sheet_rows::row_of(t.kind, t.magnetisation, t.ambient, field)?;
+    sheet_rows::row_cause(t.kind, i, Ok(row))?;
+    if checker_scans::same_row(sheet.bytes, sheet.row_start(i), t.kind, row) {
+        return Ok(());
+    }
+    Err(Refusal::WrongRow(i))
 }
 
-pub fn refused_by(r: Refusal) -> Outcome
-    ensures { result ≡ refused_by r }
+// The place of station i.
+fn place_of(sheet: Sheet, i: u32) -> Vector
+    requires { i < stations_in sheet.bytes.now }
+    ensures { result ≡ vertex (parse sheet.entry.bytes.now).stations i }
 {
-    Outcome {
-        cause: Cause::Refused(r),
-    }
-}
-
-// Station i, of which the field is given, with the magnetisation m and the ambient field a.
-fn check_station(sheet: &[u8], i: u32, m: Vector, a: Vector, field: Field) -> Cause
-    requires { Opened sheet.now × (i < stations_in sheet.now) × (m ≡ (parse sheet.now).magnetisation) × (a ≡ (parse sheet.now).ambient)
-        × (answer_of field ≡ field_in sheet.now i) }
-    ensures { result ≡ check_station sheet.now (parse sheet.now) i }
-{
-    let kind = sheet_readers::kind(sheet);
-    let answer = sheet_rows::row_of(kind, m, a, field);
-    let cause = sheet_rows::row_cause(kind, i, answer);
-    if let Cause::Refused(r) = cause {
-        return Cause::Refused(r);
-    }
-    if let RowAnswer::At(row) = answer {
-        if checker_scans::same_row(sheet, sheet_readers::row_start(sheet, i), kind, row) {
-            return Cause::None;
-        }
-    }
-    Cause::Refused(Refusal::WrongRow(i))
+    sheet_readers::vector_at(sheet.bytes, sheet.station_start(i))
 }
 
 // The n stations from the one with the number first on.
-fn places_in(sheet: &[u8], first: usize, n: usize) -> [Vector; STATIONS]
-    requires { Opened sheet.now × (n ≤ block_size) × (first + n ≤ stations_in sheet.now) }
-    ensures { (j : ℕ) → j < n → get_or result j no_vector ≡ vertex (parse sheet.now).stations (first + j) }
+fn block_of(sheet: Sheet, first: usize, n: usize) -> StationRange
+    requires { (n ≤ block_size) × (first + n ≤ stations_in sheet.bytes.now) }
+    ensures range { (result.first ≡ first) × (result.n ≡ n) }
+    ensures places { let s = (parse sheet.entry.bytes.now).stations in (j : ℕ) → j < result.n → get_or result.places j no_vector ≡ vertex s (result.first + j) }
 {
-    let start = sheet_readers::stations_start(sheet);
-    let mut out = [Vector {
+    let mut places = [Vector {
         x: 0.0,
         y: 0.0,
         z: 0.0,
     }; STATIONS];
-    for j in 0..n {
-        let p = vector_at(sheet, start + STATION_LENGTH * (first + j));
-        out[j] = p;
+    for (j, place) in places[..n].iter_mut().enumerate() {
+        *place = place_of(sheet, (first + j) as u32);
     }
-    out
+    StationRange { places, first, n }
 }
 
-// The n stations from the one with the number first on, of which the fields are given, in order.
+// A block of stations, of which the fields are given, in order.
 fn check_block(
-    sheet: &[u8],
-    m: Vector,
-    a: Vector,
-    first: usize,
-    n: usize,
-    fields: [Field; STATIONS],
-) -> Cause
-    requires { Opened sheet.now × (n ≤ block_size) × (first + n ≤ stations_in sheet.now) × (m ≡ (parse sheet.now).magnetisation) × (a ≡ (parse sheet.now).ambient)
-        × ((j : ℕ) → j < n → answer_of (get_or fields j no_field) ≡ field_in sheet.now (first + j)) }
-    ensures { result ≡ first_of n (λ j. check_station sheet.now (parse sheet.now) (first + j)) }
+    sheet: Sheet,
+    block: &StationRange,
+    fields: [Result<Newtonian, Refusal>; STATIONS],
+) -> Result<(), Refusal>
+    requires { let b = sheet.bytes.now in let s = block.now in
+        (s.first + s.n ≤ stations_in b) × ((j : ℕ) → j < s.n → get_or fields j no_field ≡ field_in b (s.first + j)) }
+    ensures { let b = sheet.entry.bytes.now in let s = block.now in result ≡ first_of s.n (λ j. check_station b (parse b) (s.first + j)) }
 {
-    for j in 0..n {
+    for j in 0..block.n {
         let field = fields[j];
-        let cause = check_station(sheet, (first + j) as u32, m, a, field);
-        if let Cause::Refused(r) = cause {
-            return Cause::Refused(r);
-        }
+        check_station(sheet, block.number(j), field)?;
     }
-    Cause::None
+    Ok(())
 }
 
-// All stations in order, with the center of a mesh. The fields of eight stations are made together, and their rows are then judged in order.
-fn check_stations(sheet: &[u8], c: Center, verts: &[f64], faces: &[u32]) -> Outcome
-    requires { Ready sheet.now verts.now faces.now × (c ≡ center_of (kind_in sheet.now) verts.now faces.now) }
-    ensures { result ≡ stations_outcome sheet.now }
+// All stations in order, with the center of a mesh. The fields of eight stations are made together, and their rows are then judged in order. A block goes by its first
+// station's number.
+fn check_stations(body: SheetBody, c: Center) -> Result<(), Refusal>
+    requires { c ≡ center_of (kind_in body.sheet.bytes.now) body.mesh.verts.now body.mesh.faces.now }
+    ensures { result ≡ stations_cause body.entry.sheet.bytes.now }
 {
-    let t = sheet_readers::trailer(sheet);
-    let m = vector_at(sheet, t + 16);
-    let a = vector_at(sheet, t + 40);
-    let kind = sheet_readers::kind(sheet);
-    let total = sheet_readers::stations(sheet) as usize;
+    let sheet = body.sheet;
+    let total = sheet.trailer.stations as usize;
     for first in (0..total).step_by(STATIONS) {
         let n = STATIONS.min(total - first);
-        let places = places_in(sheet, first, n);
-        let fields = sheet_rows::fields_at(kind, first, n, places, c, verts, faces);
-        let cause = check_block(sheet, m, a, first, n, fields);
-        if let Cause::Refused(r) = cause {
-            return refused_by(r);
-        }
+        let block = block_of(sheet, first, n);
+        let fields = sheet_rows::fields_at(
+            sheet.trailer.kind,
+            &block,
+            c,
+            body.mesh.verts,
+            body.mesh.faces,
+        );
+        check_block(sheet, &block, fields)?;
     }
-    Outcome { cause: Cause::None }
+    Ok(())
 }
 
-// The stations of a sheet whose lists were read and not refused.
-pub fn stations_outcome(sheet: &[u8], verts: &[f64], faces: &[u32], order: &[u32]) -> Outcome
-    requires { Loaded sheet.now verts.now faces.now order.now × (lists_cause sheet.now ≡ None) }
-    ensures { result ≡ stations_outcome sheet.now }
+// The stations of a sheet whose body was not refused, with its order list.
+pub fn stations_cause(body: SheetBody, order: &[u32]) -> Result<(), Refusal>
+    requires { order.now ≡ order_list body.mesh.faces.now }
+    ensures { result ≡ stations_cause body.entry.sheet.bytes.now }
 {
-    let c = sheet_rows::center_of(sheet_readers::kind(sheet), verts, faces, order);
-    check_stations(sheet, c, verts, faces)
+    let c = sheet_rows::center_of(
+        body.sheet.trailer.kind,
+        body.mesh.verts,
+        body.mesh.faces,
+        order,
+    );
+    check_stations(body, c)
 }

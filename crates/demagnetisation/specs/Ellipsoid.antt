@@ -6,25 +6,24 @@ use Rattle.std.specs.Float.Ieee.{lt}
 use Rattle.doubles.specs.Rounded.{◌⊗◌, ◌⊘◌}
 use Rattle.doubles.specs.Constants.{0·0, 3·0}
 use Rattle.refusals.specs.Causes.{or_else, unless}
-use Rattle.refusals.specs.Answer.{Answer, value, refused, or_answer}
+use Rattle.std.specs.Prelude.{Ok, Err}
+use Rattle.refusals.specs.Answer.{Answer, or_answer}
 use Rattle.refusals.specs.declared.Refusal.TheVariants.{OutOfLimits, OutsideDomain}
 use Rattle.newtonian.specs.Vectors.{vector_within_limits}
 use Rattle.newtonian.specs.declared.Vector.{Vector}
 use Rattle.carlson.specs.Rc.{times_integral}
-use Rattle.carlson.specs.declared.Integral.{Integral}
-use Rattle.carlson.specs.declared.Integral.TheVariants.{Value, Refused}
 use Rattle.special_rf_rd.specs.Rd.{rd}
 
 -- N along the semi-axis z of an ellipsoid with semi-axes x, y, z
-unfoldable pub factor : Float → Float → Float → Integral
+unfoldable pub factor : Float → Float → Float → Answer Float
 factor x y z = times_integral (x ⊗ y ⊗ z ⊘ 3·0) (rd (x ⊗ x) (y ⊗ y) (z ⊗ z))
 
 -- three factors, or the first refusal among them
-unfoldable pub together : Integral → Integral → Integral → Answer Vector
-together (Value x) (Value y) (Value z) = value (record { x = x; y = y; z = z })
-together (Refused r) b c = refused r
-together (Value x) (Refused r) c = refused r
-together (Value x) (Value y) (Refused r) = refused r
+unfoldable pub together : Answer Float → Answer Float → Answer Float → Answer Vector
+together (Ok x) (Ok y) (Ok z) = Ok (record { x = x; y = y; z = z })
+together (Err r) b c = Err r
+together (Ok x) (Err r) c = Err r
+together (Ok x) (Ok y) (Err r) = Err r
 
 unfoldable pub factors_of : Float → Float → Float → Answer Vector
 factors_of a b c = together (factor b c a) (factor c a b) (factor a b c)

@@ -6,7 +6,8 @@ use Rattle.doubles.specs.Rounded.{◌⊕◌, ◌⊗◌, ◌⊘◌}
 use Rattle.doubles.specs.Constants.{1·0}
 use Rattle.doubles.specs.Magnitude.{within_limits}
 use Rattle.refusals.specs.Causes.{unless}
-use Rattle.refusals.specs.Answer.{Answer, value, or_answer}
+use Rattle.std.specs.Prelude.{Ok}
+use Rattle.refusals.specs.Answer.{Answer, or_answer}
 use Rattle.refusals.specs.declared.Refusal.TheVariants.{OutOfLimits}
 use Rattle.newtonian.specs.Vectors.{norm, diagonal}
 use Rattle.newtonian.specs.declared.Vector.{Vector}
@@ -36,7 +37,7 @@ magnetisation_within_limits χ H₀ Mr N = both_within_limits H₀ Mr && hessian
 
 -- the public call, refused by 3
 unfoldable pub magnetisation : Float → Vector → Vector → Hessian → Answer Vector
-magnetisation χ H₀ Mr N = or_answer (unless (magnetisation_within_limits χ H₀ Mr N) OutOfLimits) (value (magnetisation_of χ H₀ Mr N))
+magnetisation χ H₀ Mr N = or_answer (unless (magnetisation_within_limits χ H₀ Mr N) OutOfLimits) (Ok (magnetisation_of χ H₀ Mr N))
 
 -- ---- the Königsberger ratio
 
@@ -45,4 +46,4 @@ koenigsberger_of Mr χ H₀ = norm Mr ⊘ (χ ⊗ norm H₀)
 
 -- the public call, refused by 3
 unfoldable pub koenigsberger : Vector → Float → Vector → Answer Float
-koenigsberger Mr χ H₀ = or_answer (unless (both_within_limits Mr H₀ && within_limits χ) OutOfLimits) (value (koenigsberger_of Mr χ H₀))
+koenigsberger Mr χ H₀ = or_answer (unless (both_within_limits Mr H₀ && within_limits χ) OutOfLimits) (Ok (koenigsberger_of Mr χ H₀))

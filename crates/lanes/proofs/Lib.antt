@@ -1,6 +1,3 @@
--- Laws of loops over lanes, and of loops after loops, for the crates above; and of the root of a lane.
+-- Laws of loops over lanes, and of loops after loops, for the crates above.
 pub mod Filling
 pub mod Folds
-mod SignBits
-mod LanePatterns
-mod Trying

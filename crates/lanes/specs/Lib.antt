@@ -1,3 +1,2 @@
 -- Several numbers side by side.
 pub mod Lanes
-pub mod LaneRoots

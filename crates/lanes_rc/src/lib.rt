@@ -15,7 +15,7 @@ ghost use Rattle.lanes_rc.specs.LaneRounds.{States, Ended, after_one, after_all,
 use carlson::{RC_FACTOR, loop_test, series_c};
 use lanes::{pick, roots};
 
-// λ of a round, where the lane makes one. Where it makes none nobody asks for λ, and the two roots are saved.
+// λ of a round, where the lane makes one, which t says: the lane's own test. Where it makes none nobody asks for λ, and the two roots are saved.
 pub fn lambda_if(t: bool, x: f64, y: f64) -> f64
     ensures { result ≡ cond t (2·0 ⊗ Root x ⊗ Root y ⊕ y) y }
 {

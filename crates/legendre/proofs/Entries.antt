@@ -4,7 +4,7 @@ use mathlib.Core.Path.{◌≡◌, refl}
 use mathlib.Core.Bool.{not}
 use mathlib.Core.List.{List}
 use Prim.Native.Nat.{ℕ, ◌+◌, ◌*◌, ◌≤◌, ◌<◌}
-use native.Mathlib.Nat.{mul-le-mul, le-mul_of_pos_right, add-le-add}
+use native.Mathlib.Nat.{mul-le-mul, add-le-add}
 use native.Mathlib.Numerals.{add-one}
 use lib.Dec.{T}
 use lib.ListN.{length, get_or, set}
@@ -17,8 +17,8 @@ pub entries : length table ≡ max_order * (max_order + 1)
 unfolding table
 entries = refl
 
-pub square : (n : ℕ) → 1 ≤ n → n ≤ max_order → (n ≤ n * n) × (n * n + n ≤ length table)
-square n p h = (le-mul_of_pos_right n p, rw entries (add-le-add (mul-le-mul {n₂ = max_order} {m₂ = max_order} h h) h))
+pub square : (n : ℕ) → n ≤ max_order → n * n + n ≤ length table
+square n h = rw entries (add-le-add (mul-le-mul {n₂ = max_order} {m₂ = max_order} h h) h)
 
 module _ (t : List ℕ) (same : t ≡ table) where
   pub readable : (j : ℕ) → j < length table → T (not (nan_bits binary64 (get_or t j 0)))

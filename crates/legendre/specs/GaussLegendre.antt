@@ -1,12 +1,10 @@
 -- What `gauss_legendre` answers: the nodes and weights of an order from 1 to 16, as the table has them. Definitions only.
-use Rattle.std.specs.Prelude.{◌&&◌, List, ℕ, zero, suc, ◌+◌, ◌-◌, ◌*◌, leb, get_or, set, replicate, Float}
+use Rattle.std.specs.Prelude.{Ok, ◌&&◌, List, ℕ, zero, suc, ◌+◌, ◌-◌, ◌*◌, leb, get_or, set, replicate, Float}
 use Rattle.std.specs.Float.{binary64}
 use Rattle.std.specs.Float.Ieee.{of_bits}
 use Rattle.doubles.specs.Constants.{0·0}
-use Rattle.refusals.specs.Causes.{unless}
-use Rattle.refusals.specs.Answer.{Answer, value, or_answer}
-use Rattle.refusals.specs.declared.Cause.{Cause}
-use Rattle.refusals.specs.declared.Cause.TheVariants.{None, Refused}
+use Rattle.refusals.specs.Answer.{Answer, or_answer}
+use Rattle.refusals.specs.Causes.{Cause, unless}
 use Rattle.refusals.specs.declared.Refusal.TheVariants.{OutsideDomain}
 use Rattle.legendre.specs.Table.{table}
 use Rattle.legendre.specs.declared.Rule.{Rule}
@@ -34,19 +32,14 @@ unfoldable pub padded : ℕ → (ℕ → Float) → List Float
 padded zero f = zeros
 padded (suc n) f = set (padded n f) n (f n)
 
--- the rule of the order n, or the cause of its refusal, with no nodes and no weights
-abbrev pub rule_or : Cause → ℕ → Rule
-rule_or None n = record { cause = None; count = n; nodes = padded n (node n); weights = padded n (weight n) }
-rule_or (Refused r) n = record { cause = Refused r; count = 0; nodes = zeros; weights = zeros }
+-- the rule of the order n
+abbrev pub rule : ℕ → Rule
+rule n = record { count = n; nodes = padded n (node n); weights = padded n (weight n) }
 
 -- refused by 14 unless 1 ≤ n ≤ 16
 abbrev pub rule_cause : ℕ → Cause
 rule_cause n = unless (leb 1 n && leb n max_order) OutsideDomain
 
--- the public call, with zeros under a refusal
-unfoldable pub gauss_legendre : ℕ → Rule
-gauss_legendre n = rule_or (rule_cause n) n
-
--- its answer: the refusal, or else the rule of the order n
-unfoldable pub rule_of : ℕ → Answer Rule
-rule_of n = or_answer (rule_cause n) (value (rule_or None n))
+-- the public call
+unfoldable pub gauss_legendre : ℕ → Answer Rule
+gauss_legendre n = or_answer (rule_cause n) (Ok (rule n))

@@ -5,10 +5,9 @@ mod table;
 
 ghost use Rattle.std.specs.Prelude.{◌≡◌, ◌+◌, ◌≤◌, length};
 ghost use Rattle.legendre.specs.Table.{table};
-ghost use Rattle.legendre.specs.Answers.{answer_of_rule};
-ghost use Rattle.legendre.specs.GaussLegendre.{max_order, entry, padded, rule_or, gauss_legendre, rule_of};
+ghost use Rattle.legendre.specs.GaussLegendre.{max_order, entry, padded, gauss_legendre};
 
-use refusals::{Cause, Refusal};
+use refusals::Refusal;
 use table::TABLE;
 
 pub const MAX_ORDER: usize = 16;
@@ -16,17 +15,16 @@ pub const MAX_ORDER: usize = 16;
 // n nodes and n weights of each order n.
 const ENTRIES: usize = MAX_ORDER * (MAX_ORDER + 1);
 
-// count nodes, ascending, and as many weights, with zeros after them; or the cause of a refusal,
-// with the count 0.
-#[derive(Clone, Copy)]
+// count nodes, ascending, and as many weights, with zeros after them.
+#[derive(Clone, Copy, Debug, PartialEq)]
 pub struct Rule {
-    pub cause: Cause,
     pub count: usize,
     pub nodes: [f64; MAX_ORDER],
     pub weights: [f64; MAX_ORDER],
 }
 
-// The n entries of the table from start on, with zeros after them.
+// The n entries of the table from start on, with zeros after them. By the index, which is the place of an entry in both; over `r[..n].iter_mut()` the zeros would
+// need a proof of their own. t is the whole table, and n no length of it.
 fn padded(t: &[u64; ENTRIES], start: usize, n: usize) -> [f64; MAX_ORDER]
     requires { (t.now ≡ table) × (n ≤ max_order) × (start + n ≤ length table) }
     ensures { result ≡ padded n (λ i. entry (start + i)) }
@@ -38,37 +36,37 @@ fn padded(t: &[u64; ENTRIES], start: usize, n: usize) -> [f64; MAX_ORDER]
     r
 }
 
-fn refused() -> Rule
-    ensures { result ≡ rule_or (Cause.Refused Refusal.OutsideDomain) 0 }
-{
-    Rule {
-        cause: Cause::Refused(Refusal::OutsideDomain),
-        count: 0,
-        nodes: [0.0; MAX_ORDER],
-        weights: [0.0; MAX_ORDER],
+impl Rule {
+    ghost use Rattle.std.specs.Prelude.{◌≡◌, ◌≤◌};
+    ghost use Rattle.legendre.specs.GaussLegendre.{max_order, rule};
+
+    // The rule of an order up to 16; that of 0 has no nodes.
+    pub fn of_order(order: u32) -> Rule
+        requires { order ≤ max_order }
+        ensures { result ≡ rule order }
+    {
+        let n = order as usize;
+        // A constant array is built anew at each use, so it is used once.
+        let t = TABLE;
+        let nodes = padded(&t, n * n - n, n);
+        let weights = padded(&t, n * n, n);
+        Rule {
+            count: n,
+            nodes,
+            weights,
+        }
     }
 }
 
 // The rule of an order. Outside 1 to 16 it is refused by 14.
-pub fn gauss_legendre(order: u32) -> Rule
-    ensures value { result ≡ gauss_legendre order }
-    ensures result_value { answer_of_rule result ≡ rule_of order }
+pub fn gauss_legendre(order: u32) -> Result<Rule, Refusal>
+    ensures { result ≡ gauss_legendre order }
 {
-    let n = order as usize;
-    if n < 1 {
-        return refused();
+    if order < 1 {
+        return Err(Refusal::OutsideDomain);
     }
-    if MAX_ORDER < n {
-        return refused();
+    if MAX_ORDER < order as usize {
+        return Err(Refusal::OutsideDomain);
     }
-    // A constant array is built anew at each use, so it is used once.
-    let t = TABLE;
-    let nodes = padded(&t, n * n - n, n);
-    let weights = padded(&t, n * n, n);
-    Rule {
-        cause: Cause::None,
-        count: n,
-        nodes,
-        weights,
-    }
+    Ok(Rule::of_order(order))
 }

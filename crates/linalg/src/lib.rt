@@ -23,6 +23,7 @@ pub struct Rows {
     pub third: Row,
 }
 
+#[tactic(auto, unfolding(crate::specs::Gauss::rows_of))]
 pub fn rows_of(p: Row, q: Row, r: Row) -> Rows
     ensures { result ≡ rows_of p q r }
 {
@@ -34,12 +35,14 @@ pub fn rows_of(p: Row, q: Row, r: Row) -> Rows
 }
 
 // Whether v takes the place of the pivot u: the last of equals, a NaN above all numbers.
+#[tactic(auto, unfolding(crate::specs::Gauss::takes))]
 fn takes(u: f64, v: f64) -> bool
     ensures { result ≡ takes u v }
 {
     v.is_nan() | (doubles::abs(u) <= doubles::abs(v))
 }
 
+#[tactic(auto, unfolding(crate::specs::Gauss::pivot_x))]
 fn pivot_x(s: Rows) -> Rows
     ensures { result ≡ pivot_x s }
 {
@@ -60,6 +63,7 @@ fn pivot_x(s: Rows) -> Rows
     s
 }
 
+#[tactic(auto, unfolding(crate::specs::Gauss::pivot_y))]
 fn pivot_y(s: Rows) -> Rows
     ensures { result ≡ pivot_y s }
 {
@@ -74,6 +78,7 @@ fn pivot_y(s: Rows) -> Rows
     s
 }
 
+#[tactic(auto, unfolding(crate::specs::Gauss::without_x))]
 fn without_x(q: Row, p: Row) -> Row
     ensures { result ≡ without_x q p }
 {
@@ -86,6 +91,7 @@ fn without_x(q: Row, p: Row) -> Row
     }
 }
 
+#[tactic(auto, unfolding(crate::specs::Gauss::without_y))]
 fn without_y(q: Row, p: Row) -> Row
     ensures { result ≡ without_y q p }
 {
@@ -98,6 +104,7 @@ fn without_y(q: Row, p: Row) -> Row
     }
 }
 
+#[tactic(auto, unfolding(crate::specs::Gauss::eliminate_x))]
 fn eliminate_x(s: Rows) -> Rows
     ensures { result ≡ eliminate_x s }
 {
@@ -109,6 +116,7 @@ fn eliminate_x(s: Rows) -> Rows
     rows_of(p, without_x(q, p), without_x(r, p))
 }
 
+#[tactic(auto, unfolding(crate::specs::Gauss::eliminate_y))]
 fn eliminate_y(s: Rows) -> Rows
     ensures { result ≡ eliminate_y s }
 {
@@ -121,6 +129,7 @@ fn eliminate_y(s: Rows) -> Rows
 }
 
 // From the last row up. Each sum of known terms starts at -0, also the empty one.
+#[tactic(auto, unfolding(crate::specs::Gauss::back_substituted))]
 fn back_substituted(s: Rows) -> Vector
     ensures { result ≡ back_substituted s }
 {
@@ -131,6 +140,7 @@ fn back_substituted(s: Rows) -> Vector
 }
 
 // The solution of three equations.
+#[tactic(auto, unfolding(crate::specs::Gauss::gauss))]
 pub fn gauss(s: Rows) -> Vector
     ensures { result ≡ gauss s }
 {

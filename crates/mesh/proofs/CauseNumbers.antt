@@ -11,8 +11,8 @@ use lib.Ieee.{Float, lt}
 use Rattle.doubles.specs.Constants.{0·0}
 use Rattle.refusals.specs.declared.Refusal.{Refusal}
 use Rattle.refusals.specs.declared.Refusal.TheVariants.{Malformed, TooMany, TooShort, OutOfLimits, NoSuchVertex, Degenerate, Inverted}
-use Rattle.refusals.specs.declared.Cause.{Cause}
-use Rattle.refusals.specs.declared.Cause.TheVariants.{None, Refused}
+use Rattle.std.specs.Prelude.{Ok, Err}
+use Rattle.refusals.specs.Causes.{Cause}
 use Rattle.refusals.specs.Numbers.{number_of}
 use Rattle.refusals.specs.Causes.{or_else, unless, first_of}
 use Rattle.mesh_orders.specs.Edges.{max_vertices, max_faces}
@@ -21,7 +21,7 @@ use Rattle.mesh.specs.Check.{malformed, too_many, too_short, in_limits, out_of_l
 
 -- c refuses only with refusals that have P
 abbrev pub Only : (Refusal → Type 0) → Cause → Type 0
-Only P c = (r : Refusal) → c ≡ Refused r → P r
+Only P c = (r : Refusal) → c ≡ Err r → P r
 
 -- the number of r is one of lo to hi
 abbrev pub NumberWithin : ℕ → ℕ → Refusal → Type 0
@@ -33,8 +33,8 @@ module _ (P : Refusal → Type 0) where
   only-unless false s h r e = subst P (let z : s ≡ r = cc in z) h
 
   pub only_else : (c d : Cause) → Only P c → Only P d → Only P (or_else c d)
-  only_else None d p q = q
-  only_else (Refused x) d p q = p
+  only_else (Ok _) d p q = q
+  only_else (Err x) d p q = p
 
   pub only-first : (n : ℕ) (t : ℕ → Bool) (s : ℕ → Refusal) → ((i : ℕ) → P (s i)) → Only P (first_of n (λ i. unless (t i) (s i)))
   unfolding first_of
@@ -42,14 +42,14 @@ module _ (P : Refusal → Type 0) where
   only-first (suc n) t s h r e = only_else (first_of n (λ i. unless (t i) (s i))) (unless (t n) (s n)) (only-first n t s h) (only-unless (t n) (s n) (h n)) r e
 
   -- the first cause never refuses with r: it does not hold, and the second decides
-  pub skip : (c d : Cause) (r : Refusal) → Only P c → (P r → ⊥) → or_else c d ≡ Refused r → (c ≡ None) × (d ≡ Refused r)
-  skip None d r p n e = (refl, e)
-  skip (Refused x) d r p n e = absurd (n (p r e))
+  pub skip : (c d : Cause) (r : Refusal) → Only P c → (P r → ⊥) → or_else c d ≡ Err r → (c ≡ Ok tt) × (d ≡ Err r)
+  skip (Ok _) d r p n e = (refl, e)
+  skip (Err x) d r p n e = absurd (n (p r e))
 
   -- the second cause never refuses with r: the first decides
-  pub decided : (c d : Cause) (r : Refusal) → Only P d → (P r → ⊥) → or_else c d ≡ Refused r → c ≡ Refused r
-  decided None d r p n e = absurd (n (p r e))
-  decided (Refused x) d r p n e = e
+  pub decided : (c d : Cause) (r : Refusal) → Only P d → (P r → ⊥) → or_else c d ≡ Err r → c ≡ Err r
+  decided (Ok _) d r p n e = absurd (n (p r e))
+  decided (Err x) d r p n e = e
 
 -- more numbers
 more_numbers : (lo hi low high : ℕ) (c : Cause) → low ≤ lo → hi ≤ high → Only (NumberWithin lo hi) c → Only (NumberWithin low high) c

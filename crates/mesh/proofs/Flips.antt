@@ -9,7 +9,7 @@ use native.Mathlib.Nat.{le_of_eq}
 use native.Mathlib.Omega.{arith}
 use lib.ListN.{length, get_or}
 use borrow.Author.Tests.{le-leb}
-use Rattle.refusals.specs.declared.Cause.TheVariants.{None}
+use Rattle.std.specs.Prelude.{Ok}
 use Rattle.refusals.specs.Causes.{unless, first_of}
 use Rattle.refusals.proofs.Causes.{from_each, passes}
 use Rattle.lists.proofs.Numbers.{same?, below?}
@@ -68,7 +68,7 @@ module _ (f : List ℕ) (h : Faces f) where
 
   -- places before i differ from the next: none of the first n places is flipped, where n is at most i or i is the last place
   pub differ_none : (i n : ℕ) → n ≤ length f → (n ≤ i) ⊎ (length f ≤ i + 1) → ((j : ℕ) → j < i → edge_at j ≡ edge_at (j + 1) → ⊥)
-      → first_of n (λ i. unless (occurs_once f (order_list f) i) (flipped_at f (order_list f) i)) ≡ None
+      → first_of n (λ i. unless (occurs_once f (order_list f) i) (flipped_at f (order_list f) i)) ≡ Ok tt
   differ_none i n nl far d =
       from_each n (λ k. unless (occurs_once f (order_list f) k) (flipped_at f (order_list f) k)) (λ k kn.
       passes (occurs_once f (order_list f) k) (flipped_at f (order_list f) k)

@@ -9,24 +9,24 @@ use Prim.Native.Nat.{ℕ, zero, suc, ◌+◌, ◌≤◌, ◌<◌}
 use native.Mathlib.Numerals.{add-one}
 use native.Mathlib.Omega.{arith}
 use Rattle.refusals.specs.declared.Refusal.{Refusal}
-use Rattle.refusals.specs.declared.Cause.{Cause}
-use Rattle.refusals.specs.declared.Cause.TheVariants.{None, Refused}
+use Rattle.std.specs.Prelude.{Ok, Err}
+use Rattle.refusals.specs.Causes.{Cause}
 use Rattle.refusals.specs.Causes.{or_else, unless, first_of}
 use Rattle.refusals.proofs.Causes.{more, stop, holds, passes, refuses, each}
 
 module _ (n : ℕ) (t : ℕ → Bool) (r : ℕ → Refusal) where
-  pub scan_start : first_of 0 (λ i. unless (t i) (r i)) ≡ None
+  pub scan_start : first_of 0 (λ i. unless (t i) (r i)) ≡ Ok tt
   unfolding first_of
   scan_start = refl
 
-  pub scan_more : (i : ℕ) → first_of i (λ j. unless (t j) (r j)) ≡ None → t i ≡ true → first_of (i + 1) (λ j. unless (t j) (r j)) ≡ None
+  pub scan_more : (i : ℕ) → first_of i (λ j. unless (t j) (r j)) ≡ Ok tt → t i ≡ true → first_of (i + 1) (λ j. unless (t j) (r j)) ≡ Ok tt
   scan_more i h e = more i (λ j. unless (t j) (r j)) h (passes (t i) (r i) e)
 
-  pub scan_stop : (i : ℕ) → i < n → first_of i (λ j. unless (t j) (r j)) ≡ None → t i ≡ false → Refused (r i) ≡ first_of n (λ j. unless (t j) (r j))
+  pub scan_stop : (i : ℕ) → i < n → first_of i (λ j. unless (t j) (r j)) ≡ Ok tt → t i ≡ false → Err (r i) ≡ first_of n (λ j. unless (t j) (r j))
   scan_stop i l h e = sym (stop n i (λ j. unless (t j) (r j)) (r i) l h (refuses (t i) (r i) e))
 
-  pub scan_end : (i : ℕ) → i ≤ n → n ≤ i → first_of i (λ j. unless (t j) (r j)) ≡ None → None ≡ first_of n (λ j. unless (t j) (r j))
-  scan_end i a b h = sym (subst (λ (m : ℕ). first_of m (λ j. unless (t j) (r j)) ≡ None) (let e : i ≡ n = omega arith in e) h)
+  pub scan_end : (i : ℕ) → i ≤ n → n ≤ i → first_of i (λ j. unless (t j) (r j)) ≡ Ok tt → Ok tt ≡ first_of n (λ j. unless (t j) (r j))
+  scan_end i a b h = sym (subst (λ (m : ℕ). first_of m (λ j. unless (t j) (r j)) ≡ Ok tt) (let e : i ≡ n = omega arith in e) h)
 
 -- with one refusal a says it both ways
 unless_both : (a b : Bool) (r : Refusal) → unless (a && b) r ≡ or_else (unless a r) (unless b r)

@@ -1,21 +1,19 @@
 -- What `check_mesh` answers, and what the lent work list holds afterwards. `v` is the vertex list, `f` the face list, `o` the order list and `n` the length of work.
 -- Each cause of refusal carries its number in document 01. Definitions only.
-use Rattle.std.specs.Prelude.{Bool, ◌&&◌, not, cond, List, [], ◌∷◌, ◌++◌, ℕ, ◌/◌, ◌%◌, length, get_or, drop, eqb, ltb, leb, Float}
+use Rattle.std.specs.Prelude.{Bool, ◌&&◌, not, cond, List, [], ◌∷◌, ◌++◌, ℕ, ◌/◌, ◌%◌, length, get_or, drop, eqb, ltb, leb, Float, Ok, Err}
 use Rattle.std.specs.Float.{nan}
 use Rattle.std.specs.Float.Ieee.{lt}
 use Rattle.doubles.specs.Constants.{0·0}
 use Rattle.doubles.specs.Magnitude.{within_limits}
 use Rattle.refusals.specs.declared.Refusal.{Refusal}
 use Rattle.refusals.specs.declared.Refusal.TheVariants.{Malformed, TooMany, TooShort, OutOfLimits, NoSuchVertex, Flipped, Open, Degenerate, Inverted}
-use Rattle.refusals.specs.declared.Cause.{Cause}
 use Rattle.refusals.specs.Numbers.{number_of}
-use Rattle.refusals.specs.Causes.{or_else, unless, first_of}
-use Rattle.refusals.specs.Answer.{Answer, value, refused, or_answer}
+use Rattle.refusals.specs.Causes.{Cause, or_else, unless, first_of}
+use Rattle.refusals.specs.Answer.{Answer, or_answer}
 use Rattle.lists.specs.Count.{count}
 use Rattle.mesh_orders.specs.Edges.{max_vertices, max_faces, from, to, occurrences}
 use Rattle.mesh_orders.specs.Order.{order_list}
 use Rattle.mesh.specs.Surface.{vertex_count, face_count, normal, is_zero, volume}
-use Rattle.mesh.specs.declared.Solid.{Solid}
 
 -- 1: a list's length is not a multiple of 3
 unfoldable pub malformed : List Float → List ℕ → Cause
@@ -114,17 +112,11 @@ mesh_cause v f n = or_else (count_cause v f n) (or_else (out_of_limits v) (surfa
 
 -- the answer, for a work list of n entries
 unfoldable pub check_mesh : List Float → List ℕ → ℕ → Answer Float
-check_mesh v f n = or_answer (mesh_cause v f n) (value (volume v f))
+check_mesh v f n = or_answer (mesh_cause v f n) (Ok (volume v f))
 
--- the answer of each case of `Solid`
-abbrev pub answer_of : Solid → Answer Float
-answer_of (Solid.Volume x) = value x
-answer_of (Solid.Refused r) = refused r
-
--- the case of a cause's refusal, or else of the volume, of a mesh or a prism: what the inner functions return
-abbrev pub solid_of : Cause → Float → Solid
-solid_of Cause.None x = Solid.Volume x
-solid_of (Cause.Refused r) x = Solid.Refused r
+-- the refusal of a cause, or else the volume, of a mesh or a prism: what the inner functions return
+abbrev pub solid_of : Cause → Float → Answer Float
+solid_of c x = or_answer c (Ok x)
 
 -- ---- the work list, a term of document 01: lent, for the order list
 
@@ -135,5 +127,5 @@ leaves_work r = leb 1 (count (number_of r) (1 ∷ 2 ∷ 12 ∷ 3 ∷ 4 ∷ 9 ∷
 
 -- the entries of work, which were w; those past 3F never change
 unfoldable pub work_after : Cause → List ℕ → List ℕ → List ℕ
-work_after Cause.None f w = order_list f ++ drop (length f) w
-work_after (Cause.Refused r) f w = cond (leaves_work r) w (order_list f ++ drop (length f) w)
+work_after (Ok _) f w = order_list f ++ drop (length f) w
+work_after (Err r) f w = cond (leaves_work r) w (order_list f ++ drop (length f) w)

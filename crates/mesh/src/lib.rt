@@ -1,4 +1,4 @@
-// The parts of `check_mesh`: its answer, the counts, the scans, and normals and volume.
+// The parts of `check_mesh`: the counts, the scans, and normals and volume.
 #![tactic(auto)]
 
 pub mod scan;
@@ -8,33 +8,26 @@ ghost use Rattle.std.specs.Prelude.{◌≡◌};
 ghost use Rattle.mesh.specs.Check.{count_cause};
 
 use mesh_orders::edges::{MAX_FACES, MAX_VERTICES};
-use refusals::{Cause, Refusal};
-
-// What the check of a solid, a mesh or a prism, answers: the volume, or the refusal.
-#[derive(Clone, Copy)]
-pub enum Solid {
-    Volume(f64),
-    Refused(Refusal),
-}
+use refusals::Refusal;
 
 // The causes 1, 2 and 12, for a work list of room entries.
-pub fn count_cause(verts: &[f64], faces: &[u32], room: usize) -> Cause
+pub fn count_cause(verts: &[f64], faces: &[u32], room: usize) -> Result<(), Refusal>
     ensures { result ≡ count_cause verts.now faces.now room }
 {
     if verts.len() % 3 != 0 {
-        return Cause::Refused(Refusal::Malformed);
+        return Err(Refusal::Malformed);
     }
     if faces.len() % 3 != 0 {
-        return Cause::Refused(Refusal::Malformed);
+        return Err(Refusal::Malformed);
     }
     if MAX_VERTICES < verts.len() / 3 {
-        return Cause::Refused(Refusal::TooMany);
+        return Err(Refusal::TooMany);
     }
     if MAX_FACES < faces.len() / 3 {
-        return Cause::Refused(Refusal::TooMany);
+        return Err(Refusal::TooMany);
     }
     if room < faces.len() {
-        return Cause::Refused(Refusal::TooShort);
+        return Err(Refusal::TooShort);
     }
-    Cause::None
+    Ok(())
 }

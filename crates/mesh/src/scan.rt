@@ -2,7 +2,6 @@
 ghost use Rattle.std.specs.Prelude.{◌≡◌, true, ◌*◌, ◌<◌, ◌≤◌, length, leb};
 ghost use Rattle.refusals.specs.Causes.{unless};
 ghost use Rattle.refusals.specs.declared.Refusal.TheVariants.{OutOfLimits};
-ghost use Rattle.refusals.specs.declared.Cause.TheVariants.{None};
 ghost use Rattle.lists.specs.Count.{Below};
 ghost use Rattle.lists.specs.CountingSort.{Placed};
 ghost use Rattle.mesh_orders.specs.Edges.{from, to, occurrences, max_faces, Faces};
@@ -14,7 +13,7 @@ use doubles::within_limits;
 use mesh_orders::edges::{edge, end, reverse, start};
 use mesh_orders::mates::mate;
 use mesh_orders::order::pass;
-use refusals::{Cause, Refusal};
+use refusals::Refusal;
 
 // Whether all numbers are within the limits. It does not stop at the first that is not, so that the compiler can test several at a time.
 fn all_within_limits(numbers: &[f64]) -> bool
@@ -24,24 +23,24 @@ fn all_within_limits(numbers: &[f64]) -> bool
 }
 
 // Cause 3: a number that is not finite, or over 10⁹.
-pub fn out_of_limits(numbers: &[f64]) -> Cause
+pub fn out_of_limits(numbers: &[f64]) -> Result<(), Refusal>
     ensures { result ≡ out_of_limits numbers.now }
 {
     if all_within_limits(numbers) {
-        return Cause::None;
+        return Ok(());
     }
-    Cause::Refused(Refusal::OutOfLimits)
+    Err(Refusal::OutOfLimits)
 }
 
 // Whether all corners are below a number of 32 bits, of which a packed instruction compares four. Nor does it stop.
 fn all_below(vertices: u32, faces: &[u32]) -> bool
-    ensures { result ≡ true → no_such_vertex vertices faces.now ≡ None }
+    ensures { result ≡ true → no_such_vertex vertices faces.now ≡ Ok tt }
 {
     faces.iter().fold(true, |all, v| all & (*v < vertices))
 }
 
 fn all_name_vertices(vertices: usize, faces: &[u32]) -> bool
-    ensures { result ≡ true → no_such_vertex vertices faces.now ≡ None }
+    ensures { result ≡ true → no_such_vertex vertices faces.now ≡ Ok tt }
 {
     match u32::try_from(vertices) {
         Ok(n) => all_below(n, faces),
@@ -50,33 +49,34 @@ fn all_name_vertices(vertices: usize, faces: &[u32]) -> bool
 }
 
 // Cause 4: the face of the first corner that names none of the vertices. It is looked for only where there is one.
-pub fn no_such_vertex(vertices: usize, faces: &[u32]) -> Cause
+pub fn no_such_vertex(vertices: usize, faces: &[u32]) -> Result<(), Refusal>
     requires { length faces.now ≤ 3 * max_faces }
     ensures { result ≡ no_such_vertex vertices faces.now }
 {
     if all_name_vertices(vertices, faces) {
-        return Cause::None;
+        return Ok(());
     }
     for (i, v) in faces.iter().enumerate() {
         if vertices <= *v as usize {
-            return Cause::Refused(Refusal::NoSuchVertex((i / 3) as u32));
+            return Err(Refusal::NoSuchVertex((i / 3) as u32));
         }
     }
-    Cause::None
+    Ok(())
 }
 
-// Cause 5: the first edge in the order list that occurs twice, which stands at the next place too.
-pub fn flipped_edge(faces: &[u32], order: &[u32]) -> Cause
+// Cause 5: the first edge in the order list that occurs twice, which stands at the next place too. By the place, of which the definition speaks: over `windows(2)` the proof
+// would have to follow the iterator's rest.
+pub fn flipped_edge(faces: &[u32], order: &[u32]) -> Result<(), Refusal>
     requires { Faces faces.now × (order.now ≡ order_list faces.now) }
     ensures { result ≡ flipped_edge faces.now (order_list faces.now) }
 {
     for i in 1..order.len() {
         let u = order[i - 1];
         if edge(faces, u) == edge(faces, order[i]) {
-            return Cause::Refused(Refusal::Flipped(start(faces, u), end(faces, u)));
+            return Err(Refusal::Flipped(start(faces, u), end(faces, u)));
         }
     }
-    Cause::None
+    Ok(())
 }
 
 // Whether the reverse of use u's edge occurs. w is a guess at the use that has it.
@@ -88,21 +88,26 @@ fn has_reverse(faces: &[u32], order: &[u32], u: u32, w: u32) -> bool
 }
 
 // Cause 6, with a guess for the reverse of each use in the order list.
-fn first_open(faces: &[u32], order: &[u32], guesses: &[u32]) -> Cause
+fn first_open(faces: &[u32], order: &[u32], guesses: &[u32]) -> Result<(), Refusal>
     requires { Faces faces.now × (order.now ≡ order_list faces.now) × Uses faces.now guesses.now × (length guesses.now ≡ length faces.now) }
     ensures { result ≡ open_edge faces.now (order_list faces.now) }
 {
     for (i, &u) in order.iter().enumerate() {
         if !has_reverse(faces, order, u, guesses[i]) {
-            return Cause::Refused(Refusal::Open(start(faces, u), end(faces, u)));
+            return Err(Refusal::Open(start(faces, u), end(faces, u)));
         }
     }
-    Cause::None
+    Ok(())
 }
 
 // Cause 6: the first edge in the order list whose reverse does not occur. Where every reverse occurs, once, the uses by to and from are the reverses of those by from
 // and to, place by place. They go into the spare list, with a counter for each vertex.
-pub fn open_edge(faces: &[u32], order: &[u32], counts: &mut [u32], spare: &mut [u32]) -> Cause
+pub fn open_edge(
+    faces: &[u32],
+    order: &[u32],
+    counts: &mut [u32],
+    spare: &mut [u32],
+) -> Result<(), Refusal>
     requires { Faces faces.now × (order.now ≡ order_list faces.now) × Below faces.now (length counts.old) × (length spare.old ≡ length faces.now) }
     ensures value { result ≡ open_edge faces.now (order_list faces.now) }
     ensures placed { Placed (endpoint true faces.now) (order_list faces.now) spare.new }

@@ -1,15 +1,15 @@
--- The mates put one by one. States: `put-more`: one more of them; `all-mates`: after the last all bytes are the mates, or there are none; `no_bytes`: where no bytes are lent, none
--- change. Assumes nothing.
+-- The mates put one by one. States: `put-more`: one more of them; `all-mates`: after the last all bytes are the mates; `none_lent`, `no_bytes`: where no bytes are lent, none change.
+-- Assumes nothing.
 use mathlib.Core.Path.{◌≡◌, refl, sym, ap, subst, ◌∙◌}
 use mathlib.Core.List.{List}
 use mathlib.Core.Logic.{⊎_elim}
-use Prim.Native.Nat.{ℕ, ◌+◌, ◌*◌, ◌/◌, ◌≤◌, ◌<◌}
+use Prim.Native.Nat.{ℕ, ◌+◌, ◌*◌, ◌≤◌, ◌<◌}
 use native.Mathlib.Nat.{zero-add}
 use native.Mathlib.Omega.{arith}
 use lib.ListN.{length, get_or, length-map}
 use lib.Seq.{sets, length-sets, ext_get_or}
-use Rattle.refusals.specs.declared.Cause.{Cause}
-use Rattle.refusals.specs.declared.Cause.TheVariants.{None, Refused}
+use Rattle.std.specs.Prelude.{Ok, Err}
+use Rattle.refusals.specs.Causes.{Cause}
 use Rattle.lists.specs.Sort.{range}
 use Rattle.lists.proofs.Numbers.{below?}
 use Rattle.lists.proofs.Ranges.{length-range}
@@ -32,17 +32,20 @@ unfolding mates
 mates_at f u l = map_range (mate f) 0 (length f) u l ∙ ap (mate f) (zero-add u)
 
 -- bytes that are lent at all are four to each use
-pub full : (n m k : ℕ) → MatesRoom n m → k < m / 4 → m ≡ 4 * n
-full n m k h l = ⊎_elim (λ e. absurd (omega arith)) (λ e. e) h
+pub full : (n m : ℕ) → MatesRoom n m → (m ≡ 0 → ⊥) → m ≡ 4 * n
+full n m h lent = ⊎_elim (λ e. absurd (lent e)) (λ e. e) h
 
 -- two lists without entries
 both_empty : (l m : List ℕ) → length l ≡ 0 → length m ≡ 0 → l ≡ m
 both_empty l m a b = ext_get_or 0 l m (a ∙ sym b) (λ i g. absurd (omega arith))
 
+pub none_lent : (m b : List ℕ) → length m ≡ 0 → m ≡ sets m 0 b
+none_lent m b e = both_empty m (sets m 0 b) e (length-sets m 0 b ∙ e)
+
 pub no_bytes : (c : Cause) (f m : List ℕ) → length m ≡ 0 → m ≡ mates_after c f m
 unfolding mates_after
-no_bytes None f m e = both_empty m (sets m 0 (pack 4 (mates f))) e (length-sets m 0 (pack 4 (mates f)) ∙ e)
-no_bytes (Refused r) f m e = refl
+no_bytes (Ok _) f m e = none_lent m (pack 4 (mates f)) e
+no_bytes (Err r) f m e = refl
 
 module _ (order partners : List ℕ) where
   -- the mates of the first k uses of the order list stand in out
@@ -77,20 +80,17 @@ module _ (order partners : List ℕ) where
         held : get_or partners k 0 ≡ get_or (mates f) (get_or order k 0) 0
         held = m.at k (omega (arith, long)) ∙ ap (λ (o : List ℕ). mate f (get_or o k 0)) (sym q) ∙ sym (mates_at f (get_or order k 0) inside)
 
-    pub all-mates : (out₀ : List ℕ) → MatesRoom (length order) (length out₀) → length out ≡ length out₀ → length out₀ / 4 ≤ k → (f : List ℕ) → order ≡ order_list f → HoldsMates f partners
+    pub all-mates : (out₀ : List ℕ) → length out₀ ≡ 4 * length order → length out ≡ length out₀ → length order ≤ k → (f : List ℕ) → order ≡ order_list f → HoldsMates f partners
         → out ≡ sets out₀ 0 (pack 4 (mates f))
-    all-mates out₀ room e l f q m = ⊎_elim (λ z. both_empty out (sets out₀ 0 (pack 4 (mates f))) (e ∙ z) (length-sets out₀ 0 (pack 4 (mates f)) ∙ z)) each room
+    all-mates out₀ room e l f q m =
+        all-put (mates f) out (omega (arith, mates-size f, long)) at
+        ∙ sym (sets_all out₀ (pack 4 (mates f)) (omega (arith, pack-length 4 (mates f), mates-size f, long)))
       where
         long : length order ≡ length f
         long = ap length q ∙ order-length f
 
-        each : length out₀ ≡ 4 * length order → out ≡ sets out₀ 0 (pack 4 (mates f))
-        each z =
-            all-put (mates f) out (omega (arith, mates-size f, long)) at
-            ∙ sym (sets_all out₀ (pack 4 (mates f)) (omega (arith, pack-length 4 (mates f), mates-size f, long)))
-          where
-            at : (u b : ℕ) → u < length (mates f) → b < 4 → Agrees (mates f) out (4 * u + b)
-            at u b ul bl =
-                let p = place f u (omega (arith, mates-size f)) in
-                subst (λ (v : ℕ). Agrees (mates f) out (4 * v + b)) (ap (λ (o : List ℕ). get_or o p.at 0) q ∙ p.is)
-                (h f q m p.at b (omega (arith, p.within, order-length f, long)) bl)
+        at : (u b : ℕ) → u < length (mates f) → b < 4 → Agrees (mates f) out (4 * u + b)
+        at u b ul bl =
+            let p = place f u (omega (arith, mates-size f)) in
+            subst (λ (v : ℕ). Agrees (mates f) out (4 * v + b)) (ap (λ (o : List ℕ). get_or o p.at 0) q ∙ p.is)
+            (h f q m p.at b (omega (arith, p.within, order-length f, long)) bl)

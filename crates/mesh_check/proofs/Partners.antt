@@ -9,7 +9,7 @@ use native.Mathlib.Nat.{not-suc-le-zero, le_of_suc-le-suc}
 use native.Mathlib.Omega.{arith}
 use lib.ListN.{length, get_or, length-map}
 use borrow.Author.Tests.{leb-true}
-use Rattle.refusals.specs.declared.Cause.TheVariants.{None}
+use Rattle.std.specs.Prelude.{Ok}
 use Rattle.lists.specs.Count.{Below}
 use Rattle.lists.specs.Sort.{Ascending}
 use Rattle.lists.specs.CountingSort.{Placed}
@@ -43,7 +43,7 @@ in_order a b x y hx hy l = ⊎_elim (λ q. inl q) (λ q. inr (omega arith)) (bel
 reverse-less : (f : List ℕ) → Faces f → (u w : ℕ) → (to f u < to f w) ⊎ ((to f u ≡ to f w) × (from f u < from f w)) → reverse f u < reverse f w
 reverse-less f h u w l = omega (arith, reverse_self f u, reverse_self f w, order-number (to f u) (from f u) (to f w) (from f w) (omega (arith, small-from f h u)) l)
 
-module _ (f s : List ℕ) (h : Faces f) (no-flipped : flipped_edge f (order_list f) ≡ None) (no-open : open_edge f (order_list f) ≡ None) (p : Placed (endpoint true f) (order_list f) s) where
+module _ (f s : List ℕ) (h : Faces f) (no-flipped : flipped_edge f (order_list f) ≡ Ok tt) (no-open : open_edge f (order_list f) ≡ Ok tt) (p : Placed (endpoint true f) (order_list f) s) where
   once : (u : ℕ) → u < length f → occurrences f (from f u) (to f u) ≤ 1
   unfolding flipped_edge
   once u l =

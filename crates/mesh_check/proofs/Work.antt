@@ -9,8 +9,8 @@ use lib.ListN.{length, drop}
 use lib.Ieee.{Float}
 use Rattle.refusals.specs.declared.Refusal.{Refusal}
 use Rattle.refusals.specs.declared.Refusal.TheVariants.{Malformed, TooMany, TooShort, OutOfLimits, NoSuchVertex, Flipped, Open, Degenerate, Inverted}
-use Rattle.refusals.specs.declared.Cause.{Cause}
-use Rattle.refusals.specs.declared.Cause.TheVariants.{None, Refused}
+use Rattle.std.specs.Prelude.{Ok, Err}
+use Rattle.refusals.specs.Causes.{Cause}
 use Rattle.refusals.specs.Numbers.{number_of}
 use Rattle.refusals.specs.Causes.{or_else}
 use Rattle.mesh_orders.specs.Order.{order_list}
@@ -50,14 +50,14 @@ module _ (v : List Float) (f : List ℕ) where
       (only_else (LeavesWork false) (degenerate_face v f) (inverted v f) (λ r e. same_number (Degenerate 0) r (only_degenerate v f r e)) (λ r e. same_number Inverted r (only-inverted v f r e))))
 
 module _ (f w : List ℕ) where
-  pub work_early : (r : Refusal) → leaves_work r ≡ true → work_after (Refused r) f w ≡ w
+  pub work_early : (r : Refusal) → leaves_work r ≡ true → work_after (Err r) f w ≡ w
   unfolding work_after
   work_early r e = ap (λ (b : Bool). cond b w (order_list f ++ drop (length f) w)) e
 
   work_late : (c : Cause) → Only (LeavesWork false) c → work_after c f w ≡ order_list f ++ drop (length f) w
   unfolding work_after
-  work_late None h = refl
-  work_late (Refused r) h = ap (λ (b : Bool). cond b w (order_list f ++ drop (length f) w)) (h r refl)
+  work_late (Ok _) h = refl
+  work_late (Err r) h = ap (λ (b : Bool). cond b w (order_list f ++ drop (length f) w)) (h r refl)
 
   pub work-order : (v : List Float) → work_after (order_cause v f (order_list f)) f w ≡ order_list f ++ drop (length f) w
   work-order v = work_late (order_cause v f (order_list f)) (late_order v f (order_list f))

@@ -1,11 +1,11 @@
 -- The mates that the check of a mesh finds, in the bytes that are lent for them. `f` is the face list. Definitions only.
 use Rattle.std.specs.Prelude.{◌≡◌, List, ◌⊎◌, ℕ, ◌*◌, ◌<◌, length, get_or, Float}
 use Rattle.std.proofs.lemmas.List.Edits.{sets}
-use Rattle.refusals.specs.declared.Cause.{Cause}
-use Rattle.refusals.specs.declared.Cause.TheVariants.{None, Refused}
+use Rattle.std.specs.Prelude.{Ok, Err}
+use Rattle.refusals.specs.Answer.{Answer}
+use Rattle.refusals.specs.Causes.{Cause}
 use Rattle.mesh_orders.specs.Order.{order_list}
 use Rattle.mesh_orders.specs.Mates.{mate, mates}
-use Rattle.mesh.specs.declared.Solid.{Solid}
 use Rattle.mesh.specs.Check.{order_cause}
 use Rattle.sheet_layout.specs.LittleEndian.{pack}
 use Rattle.mesh_check.specs.CheckOrder.{check_order}
@@ -21,11 +21,11 @@ MatesRoom n m = (m ≡ 0) ⊎ (m ≡ 4 * n)
 
 -- these bytes, which were m, after the cause c: the mates where there is none, else as they were. Where none are lent, none are written
 unfoldable pub mates_after : Cause → List ℕ → List ℕ → List ℕ
-mates_after None f m = sets m 0 (pack 4 (mates f))
-mates_after (Refused r) f m = m
+mates_after (Ok _) f m = sets m 0 (pack 4 (mates f))
+mates_after (Err r) f m = m
 
 -- the causes 5 to 8 of the mesh v, f were tried: the answer is r, work has become p, and the bytes for the mates, which were m, have become q
-pub record EdgesChecked (v : List Float) (f m : List ℕ) (r : Solid) (p q : List ℕ) : Type 0 where
+pub record EdgesChecked (v : List Float) (f m : List ℕ) (r : Answer Float) (p q : List ℕ) : Type 0 where
   pub answer : r ≡ check_order v f
   pub work : p ≡ order_list f
   pub mates : q ≡ mates_after (order_cause v f (order_list f)) f m

@@ -14,9 +14,10 @@ pub(crate) fn put_mates(order: &[u32], partners: &[u32], out: &mut [u8])
     requires { Below order.now (length order.now) × (length partners.now ≡ length order.now) × MatesRoom (length order.now) (length out.old) }
     ensures { (f : List ℕ) → order.now ≡ order_list f → HoldsMates f partners.now → out.new ≡ sets out.old 0 (pack 4 (mates f)) }
 {
-    let n = out.len() / 4;
-    for k in 0..n {
-        let u = order[k] as usize;
-        put_u32(out, 4 * u, partners[k]);
+    if out.is_empty() {
+        return;
+    }
+    for (k, &u) in order.iter().enumerate() {
+        put_u32(out, 4 * u as usize, partners[k]);
     }
 }

@@ -3,11 +3,12 @@
 // (`mesh_orders::order::pass`): these are the mates of an accepted mesh.
 ghost use Rattle.std.specs.Prelude.{◌≡◌, ◌&&◌, ◌*◌, ◌≤◌, leb, length};
 ghost use Rattle.mesh_orders.specs.Edges.{max_vertices, max_faces};
-ghost use Rattle.mesh.specs.Surface.{Body, vertex_count};
+ghost use Rattle.mesh.specs.Surface.{vertex_count};
 ghost use Rattle.mesh_check.specs.CheckedMates.{MatesRoom, EdgesChecked};
 
-use mesh::Solid;
+use mesh::surface::Mesh;
 use mesh_orders::edges::{MAX_FACES, MAX_VERTICES};
+use refusals::Refusal;
 
 // The edge uses of 512 faces.
 const SMALL_ROOM: usize = 3 * 512;
@@ -21,38 +22,39 @@ const LARGE_ROOM: usize = 3 * MAX_FACES;
 // The causes 5 to 8, in a room for V vertices and U edge uses. Each room keeps a stack frame of its own: in one frame every mesh would touch the pages of the largest room.
 #[inline(never)]
 fn check_in<const V: usize, const U: usize>(
-    verts: &[f64],
-    faces: &[u32],
+    mesh: Mesh,
     work: &mut [u32],
     mates: &mut [u8],
-) -> Solid
-    requires { Body verts.now faces.now × (length work.old ≡ length faces.now) × MatesRoom (length faces.now) (length mates.old) × (vertex_count verts.now ≤ V) × (length faces.now ≤ U) × (V ≤ 3 * max_faces) × (U ≤ 3 * max_faces) }
-    ensures { EdgesChecked verts.now faces.now mates.old result work.new mates.new }
+) -> Result<f64, Refusal>
+    requires { let n = length mesh.faces.now in
+        (length work.old ≡ n) × MatesRoom n (length mates.old) × (vertex_count mesh.verts.now ≤ V) × (n ≤ U) × (V ≤ 3 * max_faces) × (U ≤ 3 * max_faces) }
+    ensures { EdgesChecked mesh.entry.verts.now mesh.entry.faces.now mates.old result work.new mates.new }
 {
-    let v = verts.len() / 3;
-    let n = faces.len();
+    let v = mesh.verts.len() / 3;
+    let n = mesh.faces.len();
     let mut counts = [0; V];
     let mut spare = [0; U];
-    crate::check_edges(verts, faces, &mut counts[..v], &mut spare[..n], work, mates)
+    crate::check_edges(mesh, &mut counts[..v], &mut spare[..n], work, mates)
 }
 
 // Whether a room for n vertices and n edge uses holds the mesh.
-fn fits(verts: &[f64], faces: &[u32], n: usize) -> bool
-    ensures { result ≡ (leb (vertex_count verts.now) n && leb (length faces.now) n) }
+fn fits(mesh: Mesh, n: usize) -> bool
+    ensures { result ≡ (leb (vertex_count mesh.entry.verts.now) n && leb (length mesh.entry.faces.now) n) }
 {
-    verts.len() / 3 <= n && faces.len() <= n
+    mesh.verts.len() / 3 <= n && mesh.faces.len() <= n
 }
 
 // The causes 5 to 8, in the smallest room that holds the mesh. Work is the order list afterwards, and mates, where it is not empty and no cause holds, the mates.
-pub(crate) fn by_size(verts: &[f64], faces: &[u32], work: &mut [u32], mates: &mut [u8]) -> Solid
-    requires { Body verts.now faces.now × (length work.old ≡ length faces.now) × MatesRoom (length faces.now) (length mates.old) × (vertex_count verts.now ≤ max_vertices) }
-    ensures { EdgesChecked verts.now faces.now mates.old result work.new mates.new }
+pub(crate) fn by_size(mesh: Mesh, work: &mut [u32], mates: &mut [u8]) -> Result<f64, Refusal>
+    requires { let n = length mesh.faces.now in
+        (length work.old ≡ n) × MatesRoom n (length mates.old) × (vertex_count mesh.verts.now ≤ max_vertices) }
+    ensures { EdgesChecked mesh.entry.verts.now mesh.entry.faces.now mates.old result work.new mates.new }
 {
-    if fits(verts, faces, SMALL_ROOM) {
-        check_in::<SMALL_ROOM, SMALL_ROOM>(verts, faces, work, mates)
-    } else if fits(verts, faces, MEDIUM_ROOM) {
-        check_in::<MEDIUM_ROOM, MEDIUM_ROOM>(verts, faces, work, mates)
+    if fits(mesh, SMALL_ROOM) {
+        check_in::<SMALL_ROOM, SMALL_ROOM>(mesh, work, mates)
+    } else if fits(mesh, MEDIUM_ROOM) {
+        check_in::<MEDIUM_ROOM, MEDIUM_ROOM>(mesh, work, mates)
     } else {
-        check_in::<MAX_VERTICES, LARGE_ROOM>(verts, faces, work, mates)
+        check_in::<MAX_VERTICES, LARGE_ROOM>(mesh, work, mates)
     }
 }

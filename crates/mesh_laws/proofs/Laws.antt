@@ -9,16 +9,15 @@ use Rattle.std.specs.Float.Ieee.{lt}
 use Rattle.doubles.specs.Constants.{0·0}
 use Rattle.refusals.specs.declared.Refusal.{Refusal}
 use Rattle.refusals.specs.declared.Refusal.TheVariants.{Flipped, Open, Degenerate, Inverted}
-use Rattle.refusals.specs.declared.Cause.{Cause}
-use Rattle.refusals.specs.declared.Cause.TheVariants.{None, Refused}
+use Rattle.std.specs.Prelude.{Ok, Err}
+use Rattle.refusals.specs.Answer.{Answer, or_answer}
+use Rattle.refusals.specs.Causes.{Cause}
 use Rattle.refusals.specs.Numbers.{number_of}
 use Rattle.refusals.specs.Causes.{or_else}
-use Rattle.refusals.specs.Answer.{Answer, value, refused, or_answer}
 use Rattle.refusals.proofs.Causes.{both}
 use Rattle.mesh_orders.specs.Edges.{occurrences}
 use Rattle.mesh_orders.specs.Order.{order_list}
 use Rattle.mesh_orders.specs.OrderLaws.{order-length}
-use Rattle.mesh.specs.declared.Solid.{Solid}
 use Rattle.mesh.specs.Surface.{vertex_count, face_count, normal, is_zero, volume}
 use Rattle.mesh.specs.Check.{no_such_vertex, flipped_edge, open_edge, degenerate_face, inverted, faces_cause, order_cause, surface_cause, mesh_cause, solid_of, check_mesh, work_after}
 use Rattle.mesh.specs.Accepted.{Counted, Checked, Sound, Closed, Accepted}
@@ -30,29 +29,29 @@ use Rattle.mesh_laws.specs.LateCauses.{none_flipped, flipped_none, flipped_small
 
 -- ---- the answers
 
-pub solid-volume : (c : Cause) (y x : Float) → solid_of c y ≡ Solid.Volume x → (c ≡ None) × (x ≡ y)
-solid-volume None y x e = (refl, cc)
-solid-volume (Refused r) y x e = absurd (let z : ◌≡◌ {A = ℕ} 0 1 = cc in omega arith)
+pub solid-volume : (c : Cause) (y x : Float) → solid_of c y ≡ Ok x → (c ≡ Ok tt) × (x ≡ y)
+solid-volume (Ok _) y x e = (refl, cc)
+solid-volume (Err r) y x e = absurd (let z : ◌≡◌ {A = ℕ} 0 1 = cc in omega arith)
 
-pub solid-refused : (c : Cause) (y : Float) (r : Refusal) → solid_of c y ≡ Solid.Refused r → c ≡ Refused r
-solid-refused None y r e = absurd (let z : ◌≡◌ {A = ℕ} 0 1 = cc in omega arith)
-solid-refused (Refused s) y r e = ap {B = Cause} Refused (let z : s ≡ r = cc in z)
+pub solid-refused : (c : Cause) (y : Float) (r : Refusal) → solid_of c y ≡ Err r → c ≡ Err r
+solid-refused (Ok _) y r e = absurd (let z : ◌≡◌ {A = ℕ} 0 1 = cc in omega arith)
+solid-refused (Err s) y r e = ap {B = Cause} Err (let z : s ≡ r = cc in z)
 
-answer-value : (c : Cause) (y x : Float) → or_answer c (value y) ≡ value x → (c ≡ None) × (x ≡ y)
-answer-value None y x e = (refl, cc)
-answer-value (Refused r) y x e = absurd (let z : ◌≡◌ {A = ℕ} 0 1 = cc in omega arith)
+answer-value : (c : Cause) (y x : Float) → or_answer c (Ok y) ≡ Ok x → (c ≡ Ok tt) × (x ≡ y)
+answer-value (Ok _) y x e = (refl, cc)
+answer-value (Err r) y x e = absurd (let z : ◌≡◌ {A = ℕ} 0 1 = cc in omega arith)
 
-pub answer-refused : (c : Cause) (y : Float) (r : Refusal) → or_answer c (value y) ≡ refused r → c ≡ Refused r
-answer-refused None y r e = absurd (let z : ◌≡◌ {A = ℕ} 0 1 = cc in omega arith)
-answer-refused (Refused s) y r e = ap {B = Cause} Refused (let z : s ≡ r = cc in z)
+pub answer-refused : (c : Cause) (y : Float) (r : Refusal) → or_answer c (Ok y) ≡ Err r → c ≡ Err r
+answer-refused (Ok _) y r e = absurd (let z : ◌≡◌ {A = ℕ} 0 1 = cc in omega arith)
+answer-refused (Err s) y r e = ap {B = Cause} Err (let z : s ≡ r = cc in z)
 
 module _ (v : List Float) (f : List ℕ) (n : ℕ) where
   -- of a sound mesh the causes 5 to 8 give the answer
-  answer : Sound v f n → (c : Cause) → order_cause v f (order_list f) ≡ c → check_mesh v f n ≡ or_answer c (value (volume v f))
+  answer : Sound v f n → (c : Cause) → order_cause v f (order_list f) ≡ c → check_mesh v f n ≡ or_answer c (Ok (volume v f))
   unfolding check_mesh
-  answer s c e = ap (λ (d : Cause). or_answer d (value (volume v f))) (sound-order v f n s ∙ e)
+  answer s c e = ap (λ (d : Cause). or_answer d (Ok (volume v f))) (sound-order v f n s ∙ e)
 
-  late : (r : Refusal) → 5 ≤ number_of r → number_of r ≤ 8 → check_mesh v f n ≡ refused r → Sound v f n × (order_cause v f (order_list f) ≡ Refused r)
+  late : (r : Refusal) → 5 ≤ number_of r → number_of r ≤ 8 → check_mesh v f n ≡ Err r → Sound v f n × (order_cause v f (order_list f) ≡ Err r)
   unfolding check_mesh
   late r lo hi e = late_sound v f n r lo hi (answer-refused (mesh_cause v f n) (volume v f) r e)
 
@@ -61,7 +60,7 @@ module _ (v : List Float) (f : List ℕ) (n : ℕ) where
   after_flipped = or_else (open_edge f (order_list f)) (faces_cause v f)
 
   -- accepted
-  pub accepted : (x : Float) → check_mesh v f n ≡ value x → Accepted v f n x
+  pub accepted : (x : Float) → check_mesh v f n ≡ Ok x → Accepted v f n x
   unfolding check_mesh
   accepted x e =
       let m = answer-value (mesh_cause v f n) (volume v f) x e in
@@ -69,13 +68,13 @@ module _ (v : List Float) (f : List ℕ) (n : ℕ) where
       let c = none-order v f (sound-body v f n s.0).faces s.1 in
       record { sound = s.0; closed = c.0; normals = c.1; positive = c.2; answer = m.1 }
 
-  pub accepts : (x : Float) → Accepted v f n x → check_mesh v f n ≡ value x
+  pub accepts : (x : Float) → Accepted v f n x → check_mesh v f n ≡ Ok x
   accepts x h =
-      answer h.sound None (order-none v f (sound-body v f n h.sound).faces (h.closed, h.normals, h.positive))
-      ∙ ap {B = Answer Float} value (sym h.answer)
+      answer h.sound (Ok tt) (order-none v f (sound-body v f n h.sound).faces (h.closed, h.normals, h.positive))
+      ∙ ap {B = Answer Float} Ok (sym h.answer)
 
   -- and its work list starts with the order list
-  pub accepted-work : (w : List ℕ) (x : Float) → check_mesh v f n ≡ value x
+  pub accepted-work : (w : List ℕ) (x : Float) → check_mesh v f n ≡ Ok x
       → work_after (mesh_cause v f n) f w ≡ order_list f ++ drop (length f) w
   unfolding check_mesh work_after
   accepted-work w x e = rw (answer-value (mesh_cause v f n) (volume v f) x e).0
@@ -84,7 +83,7 @@ module _ (v : List Float) (f : List ℕ) (n : ℕ) where
   work-front w = take_at (order_list f) (drop (length f) w) (length f) (order-length f)
 
   -- Flipped
-  pub flipped : (a b : ℕ) → check_mesh v f n ≡ refused (Flipped a b) → Sound v f n × SmallestTwice f a b
+  pub flipped : (a b : ℕ) → check_mesh v f n ≡ Err (Flipped a b) → Sound v f n × SmallestTwice f a b
   unfolding order_cause
   flipped a b e =
       let s = late (Flipped a b) (omega arith) (omega arith) e in (
@@ -93,12 +92,12 @@ module _ (v : List Float) (f : List ℕ) (n : ℕ) where
             (decided (NumberWithin 6 8) (flipped_edge f (order_list f)) after_flipped (Flipped a b) (only-after_flipped v f (order_list f)) (λ q. omega (arith, q.0)) s.1),
       )
 
-  pub flips : (a b : ℕ) → Sound v f n → SmallestTwice f a b → check_mesh v f n ≡ refused (Flipped a b)
+  pub flips : (a b : ℕ) → Sound v f n → SmallestTwice f a b → check_mesh v f n ≡ Err (Flipped a b)
   unfolding order_cause
-  flips a b s m = answer s (Refused (Flipped a b)) (rw (smallest_flipped f (sound-body v f n s).faces a b m))
+  flips a b s m = answer s (Err (Flipped a b)) (rw (smallest_flipped f (sound-body v f n s).faces a b m))
 
   -- Open
-  pub is_open : (a b : ℕ) → check_mesh v f n ≡ refused (Open a b) → Sound v f n × ((c d : ℕ) → occurrences f c d ≤ 1) × SmallestOpen f a b
+  pub is_open : (a b : ℕ) → check_mesh v f n ≡ Err (Open a b) → Sound v f n × ((c d : ℕ) → occurrences f c d ≤ 1) × SmallestOpen f a b
   unfolding order_cause
   is_open a b e =
       let s = late (Open a b) (omega arith) (omega arith) e in
@@ -110,12 +109,12 @@ module _ (v : List Float) (f : List ℕ) (n : ℕ) where
             (decided (NumberWithin 7 8) (open_edge f (order_list f)) (faces_cause v f) (Open a b) (only-faces v f) (λ q. omega (arith, q.0)) t.1),
       )
 
-  pub opens : (a b : ℕ) → Sound v f n → ((c d : ℕ) → occurrences f c d ≤ 1) → SmallestOpen f a b → check_mesh v f n ≡ refused (Open a b)
+  pub opens : (a b : ℕ) → Sound v f n → ((c d : ℕ) → occurrences f c d ≤ 1) → SmallestOpen f a b → check_mesh v f n ≡ Err (Open a b)
   unfolding order_cause
-  opens a b s o m = let h = (sound-body v f n s).faces in answer s (Refused (Open a b)) (rw (flipped_none f h o, smallest_open f h a b m))
+  opens a b s o m = let h = (sound-body v f n s).faces in answer s (Err (Open a b)) (rw (flipped_none f h o, smallest_open f h a b m))
 
   -- Degenerate
-  pub degenerate : (k : ℕ) → check_mesh v f n ≡ refused (Degenerate k) → Sound v f n × Closed f × FirstDegenerate v f k
+  pub degenerate : (k : ℕ) → check_mesh v f n ≡ Err (Degenerate k) → Sound v f n × Closed f × FirstDegenerate v f k
   unfolding order_cause faces_cause
   degenerate k e =
       let s = late (Degenerate k) (omega arith) (omega arith) e in
@@ -127,12 +126,12 @@ module _ (v : List Float) (f : List ℕ) (n : ℕ) where
             (decided (NumberWithin 8 8) (degenerate_face v f) (inverted v f) (Degenerate k) (only-inverted v f) (λ q. omega (arith, q.0)) u.1),
       )
 
-  pub degenerates : (k : ℕ) → Sound v f n → Closed f → FirstDegenerate v f k → check_mesh v f n ≡ refused (Degenerate k)
+  pub degenerates : (k : ℕ) → Sound v f n → Closed f → FirstDegenerate v f k → check_mesh v f n ≡ Err (Degenerate k)
   unfolding order_cause faces_cause
-  degenerates k s c d = let z = closed_none f (sound-body v f n s).faces c in answer s (Refused (Degenerate k)) (rw (z.0, z.1, first_degenerate v f k d))
+  degenerates k s c d = let z = closed_none f (sound-body v f n s).faces c in answer s (Err (Degenerate k)) (rw (z.0, z.1, first_degenerate v f k d))
 
   -- Inverted
-  pub is-inverted : check_mesh v f n ≡ refused Inverted
+  pub is-inverted : check_mesh v f n ≡ Err Inverted
       → Sound v f n × Closed f × ((k : ℕ) → k < face_count f → is_zero (normal v f k) ≡ false) × (lt 0·0 (volume v f) ≡ false)
   unfolding order_cause faces_cause
   is-inverted e =
@@ -142,14 +141,14 @@ module _ (v : List Float) (f : List ℕ) (n : ℕ) where
       let w = skip (NumberWithin 7 7) (degenerate_face v f) (inverted v f) Inverted (only_degenerate v f) (λ q. omega (arith, q.1)) u.1 in
       (s.0, none-closed f (sound-body v f n s.0).faces t.0 u.0, none_degenerate v f w.0, not-positive v f w.1)
 
-  pub inverts : Sound v f n → Closed f → ((k : ℕ) → k < face_count f → is_zero (normal v f k) ≡ false) → lt 0·0 (volume v f) ≡ false → check_mesh v f n ≡ refused Inverted
+  pub inverts : Sound v f n → Closed f → ((k : ℕ) → k < face_count f → is_zero (normal v f k) ≡ false) → lt 0·0 (volume v f) ≡ false → check_mesh v f n ≡ Err Inverted
   unfolding order_cause faces_cause inverted
-  inverts s c d p = let z = closed_none f (sound-body v f n s).faces c in answer s (Refused Inverted) (rw (z.0, z.1, degenerate_none v f d, p))
+  inverts s c d p = let z = closed_none f (sound-body v f n s).faces c in answer s (Err Inverted) (rw (z.0, z.1, degenerate_none v f d, p))
 
 -- ---- what `check_surface` leaves
 
 module _ (v : List Float) (f : List ℕ) where
-  pub checked : (n : ℕ) → Counted v f n → surface_cause v f ≡ None → Checked v f
+  pub checked : (n : ℕ) → Counted v f n → surface_cause v f ≡ Ok tt → Checked v f
   unfolding surface_cause
   checked n h e =
       let a = both (no_such_vertex (vertex_count v) f) (order_cause v f (order_list f)) e in
@@ -157,6 +156,6 @@ module _ (v : List Float) (f : List ℕ) where
       let s = none-order v f b.faces a.1 in
       record { body = b; closed = s.0; normals = s.1; positive = s.2 }
 
-  pub checks : Checked v f → surface_cause v f ≡ None
+  pub checks : Checked v f → surface_cause v f ≡ Ok tt
   unfolding surface_cause
   checks h = rw (vertex-none v f h.body.inside, order-none v f h.body.faces (h.closed, h.normals, h.positive))

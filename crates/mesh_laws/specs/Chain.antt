@@ -3,7 +3,7 @@
 use Rattle.std.specs.Prelude.{◌≡◌, List, ℕ, ◌≤◌, Float}
 use Rattle.std.proofs.Common.{arith}
 use Rattle.refusals.specs.declared.Refusal.{Refusal}
-use Rattle.refusals.specs.declared.Cause.TheVariants.{None, Refused}
+use Rattle.std.specs.Prelude.{Ok, Err}
 use Rattle.refusals.specs.Numbers.{number_of}
 use Rattle.refusals.specs.Causes.{or_else}
 use Rattle.refusals.proofs.Causes.{both}
@@ -33,10 +33,10 @@ module _ (v : List Float) (f : List ℕ) (n : ℕ) where
   unfolding mesh_cause surface_cause
   sound-order s = rw (count_none v f n s.counted, limits_none v f s.numbers, vertex-none v f s.inside)
 
-  sound : count_cause v f n ≡ None → out_of_limits v ≡ None → no_such_vertex (vertex_count v) f ≡ None → Sound v f n
+  sound : count_cause v f n ≡ Ok tt → out_of_limits v ≡ Ok tt → no_such_vertex (vertex_count v) f ≡ Ok tt → Sound v f n
   sound a b c = record { counted = none-count v f n a; numbers = none_limits v f b; inside = none-vertex v f c }
 
-  pub none-sound : mesh_cause v f n ≡ None → Sound v f n × (order_cause v f (order_list f) ≡ None)
+  pub none-sound : mesh_cause v f n ≡ Ok tt → Sound v f n × (order_cause v f (order_list f) ≡ Ok tt)
   unfolding mesh_cause surface_cause
   none-sound e =
       let a = both (count_cause v f n) (or_else (out_of_limits v) (surface_cause v f)) e in
@@ -44,7 +44,7 @@ module _ (v : List Float) (f : List ℕ) (n : ℕ) where
       let c = both (no_such_vertex (vertex_count v) f) (order_cause v f (order_list f)) b.1 in
       (sound a.0 b.0 c.0, c.1)
 
-  pub late_sound : (r : Refusal) → 5 ≤ number_of r → number_of r ≤ 8 → mesh_cause v f n ≡ Refused r → Sound v f n × (order_cause v f (order_list f) ≡ Refused r)
+  pub late_sound : (r : Refusal) → 5 ≤ number_of r → number_of r ≤ 8 → mesh_cause v f n ≡ Err r → Sound v f n × (order_cause v f (order_list f) ≡ Err r)
   unfolding mesh_cause surface_cause
   late_sound r lo hi e =
       let a = skip Not5To8 (count_cause v f n) (or_else (out_of_limits v) (surface_cause v f)) r count-not_late (λ q. q (lo, hi)) e in

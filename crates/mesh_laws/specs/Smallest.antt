@@ -5,8 +5,8 @@ use Rattle.std.proofs.Common.{sym, ap, ap₂, ◌∙◌, inl, inr, ⊎_elim, ari
 use Rattle.std.specs.Prelude.{Bool, true, false, List, length, get_or}
 use Prim.Native.Nat.{ℕ, zero, suc, ◌≤◌, ◌<◌}
 use Rattle.refusals.specs.declared.Refusal.{Refusal}
-use Rattle.refusals.specs.declared.Cause.{Cause}
-use Rattle.refusals.specs.declared.Cause.TheVariants.{None, Refused}
+use Rattle.std.specs.Prelude.{Ok, Err}
+use Rattle.refusals.specs.Causes.{Cause}
 use Rattle.refusals.specs.Causes.{or_else, unless, first_of}
 use Rattle.lists.proofs.Numbers.{below?, true≢false}
 use Rattle.mesh_orders.specs.Edges.{from, to, occurrences, 2³², edge_number, Faces}
@@ -27,24 +27,24 @@ pub record FirstFail (n : ℕ) (t : ℕ → Bool) (r : ℕ → Refusal) (s : Ref
   pub before : (k : ℕ) → k < at → t k ≡ true
 
 module _ (t : ℕ → Bool) (r : ℕ → Refusal) where
-  unless-fails : (n : ℕ) (s : Refusal) → unless (t n) (r n) ≡ Refused s → (t n ≡ false) × (r n ≡ s)
+  unless-fails : (n : ℕ) (s : Refusal) → unless (t n) (r n) ≡ Err s → (t n ≡ false) × (r n ≡ s)
   unless-fails n s e = go (t n) e
     where
-      go : (b : Bool) → unless b (r n) ≡ Refused s → (b ≡ false) × (r n ≡ s)
+      go : (b : Bool) → unless b (r n) ≡ Err s → (b ≡ false) × (r n ≡ s)
       go true q = absurd (let z : ◌≡◌ {A = ℕ} 0 1 = cc in omega arith)
       go false q = (refl, cc)
 
-  pub first_fail : (n : ℕ) (s : Refusal) → first_of n (λ i. unless (t i) (r i)) ≡ Refused s → FirstFail n t r s
+  pub first_fail : (n : ℕ) (s : Refusal) → first_of n (λ i. unless (t i) (r i)) ≡ Err s → FirstFail n t r s
   unfolding first_of
   first_fail zero s e = absurd (let z : ◌≡◌ {A = ℕ} 0 1 = cc in omega arith)
   first_fail (suc n) s e = go (first_of n (λ i. unless (t i) (r i))) refl e (λ q. first_fail n s q)
     where
-      go : (c : Cause) → first_of n (λ i. unless (t i) (r i)) ≡ c → or_else c (unless (t n) (r n)) ≡ Refused s
-          → (first_of n (λ i. unless (t i) (r i)) ≡ Refused s → FirstFail n t r s) → FirstFail (suc n) t r s
-      go None q p rest =
+      go : (c : Cause) → first_of n (λ i. unless (t i) (r i)) ≡ c → or_else c (unless (t n) (r n)) ≡ Err s
+          → (first_of n (λ i. unless (t i) (r i)) ≡ Err s → FirstFail n t r s) → FirstFail (suc n) t r s
+      go (Ok _) q p rest =
           let u = unless-fails n s p in
           record { at = n; within = omega arith; fails = u.0; refusal = u.1; before = none_each n t r q }
-      go (Refused x) q p rest =
+      go (Err x) q p rest =
           let f = rest (q ∙ p) in
           record { at = f.at; within = omega (arith, f.within); fails = f.fails; refusal = f.refusal; before = f.before }
 
@@ -81,15 +81,15 @@ module _ (f : List ℕ) (h : Faces f) (T : ℕ → ℕ → Bool) (R : ℕ → �
       let p = place f u.0 u.1 in
       (p.at, omega (arith, p.within, order-length f), ap (from f) p.is ∙ q.0, ap (to f) p.is ∙ q.1)
 
-  pub all_pass : first_of (length f) (λ i. unless (test i) (refusal_at i)) ≡ None → (a b : ℕ) → 1 ≤ occurrences f a b → T a b ≡ true
+  pub all_pass : first_of (length f) (λ i. unless (test i) (refusal_at i)) ≡ Ok tt → (a b : ℕ) → 1 ≤ occurrences f a b → T a b ≡ true
   all_pass e a b o =
       let p = edge-place a b o in
       sym (ap₂ T p.2 p.3) ∙ none_each (length f) test refusal_at e p.0 p.1
 
-  pub pass_all : ((u : ℕ) → u < length f → T (from f u) (to f u) ≡ true) → first_of (length f) (λ i. unless (test i) (refusal_at i)) ≡ None
+  pub pass_all : ((u : ℕ) → u < length f → T (from f u) (to f u) ≡ true) → first_of (length f) (λ i. unless (test i) (refusal_at i)) ≡ Ok tt
   pass_all t = each_none (length f) test refusal_at (λ i l. t (get_or (order_list f) i 0) (order_below f i (omega (arith, order-length f))))
 
-  pub smallest : (s : Refusal) → first_of (length f) (λ i. unless (test i) (refusal_at i)) ≡ Refused s
+  pub smallest : (s : Refusal) → first_of (length f) (λ i. unless (test i) (refusal_at i)) ≡ Err s
       → (a : ℕ) × (b : ℕ) × (R a b ≡ s) × Smallest f T a b
   smallest s e = (from f u, to f u, g.refusal, record { occurs = occurs; fails = g.fails; least = least })
     where
@@ -111,12 +111,12 @@ module _ (f : List ℕ) (h : Faces f) (T : ℕ → ℕ → Bool) (R : ℕ → �
           not_after (from f u) (to f u) c d (omega (arith, small-to f h u)) (omega (arith, small-to f h w, p.3))
           (omega (arith, edge-le f h g.at p.0 late p.1, edge_self f u, edge_self f w, p.2, p.3))
 
-  pub from-smallest : (a b : ℕ) → Smallest f T a b → first_of (length f) (λ i. unless (test i) (refusal_at i)) ≡ Refused (R a b)
+  pub from-smallest : (a b : ℕ) → Smallest f T a b → first_of (length f) (λ i. unless (test i) (refusal_at i)) ≡ Err (R a b)
   from-smallest a b m = go (first_of (length f) (λ i. unless (test i) (refusal_at i))) refl
     where
-      go : (c : Cause) → first_of (length f) (λ i. unless (test i) (refusal_at i)) ≡ c → c ≡ Refused (R a b)
-      go None e = absurd (true≢false (sym (all_pass e a b m.occurs) ∙ m.fails))
-      go (Refused s) e =
+      go : (c : Cause) → first_of (length f) (λ i. unless (test i) (refusal_at i)) ≡ c → c ≡ Err (R a b)
+      go (Ok _) e = absurd (true≢false (sym (all_pass e a b m.occurs) ∙ m.fails))
+      go (Err s) e =
           let g = smallest s e in
           let q = both_ways a b g.0 g.1 (m.least g.0 g.1 g.3.occurs g.3.fails) (g.3.least a b m.occurs m.fails) in
-          ap {B = Cause} Refused (sym g.2 ∙ sym (ap₂ R q.0 q.1))
+          ap {B = Cause} Err (sym g.2 ∙ sym (ap₂ R q.0 q.1))

@@ -1,4 +1,4 @@
-// Edge uses, the order list and the mates.
+// Edge uses, the order list and the mates. The lists are lent as slices and come to meet their conditions one after another, so each function asks for those that it needs.
 #![tactic(auto)]
 
 pub mod edges;

@@ -1,17 +1,15 @@
-// The field record; a field or its refusal; vectors of three doubles; a mass point's field.
+// The field record; vectors of three doubles; a mass point's field; the numbers of each, in order.
 #![tactic(auto)]
 
 ghost use Rattle.std.specs.Prelude.{◌≡◌};
 ghost use Rattle.roots.specs.Root.{Root};
-ghost use Rattle.newtonian.specs.Vectors.{difference, dot, norm, cross, over, diagonal, add_vectors, add_fields, zero_field, vector_within_limits, field_numbers};
+ghost use Rattle.newtonian.specs.Vectors.{difference, dot, norm, cross, over, diagonal, add_vectors, add_fields, zero_field, vector_within_limits};
 ghost use Rattle.newtonian.specs.Point.{add_point_gradient, add_point_row, add_point};
-
-use refusals::Refusal;
 
 // How many numbers a field has.
 pub const FIELD_SIZE: usize = 13;
 
-#[derive(Clone, Copy)]
+#[derive(Clone, Copy, Debug, PartialEq)]
 pub struct Vector {
     pub x: f64,
     pub y: f64,
@@ -19,7 +17,7 @@ pub struct Vector {
 }
 
 // A matrix by its rows: of a field, the second derivatives of its potential.
-#[derive(Clone, Copy)]
+#[derive(Clone, Copy, Debug, PartialEq)]
 pub struct Hessian {
     pub x: Vector,
     pub y: Vector,
@@ -28,20 +26,14 @@ pub struct Hessian {
 
 // The field of a body at a station, at unit Gρ: the potential V = ∫dV/r, its gradient, which is the attraction and points
 // at the body, and its Hessian, the gravity-gradient tensor.
-#[derive(Clone, Copy)]
+#[derive(Clone, Copy, Debug, PartialEq)]
 pub struct Newtonian {
     pub potential: f64,
     pub gradient: Vector,
     pub hessian: Hessian,
 }
 
-// The field, or a refusal.
-#[derive(Clone, Copy)]
-pub enum Field {
-    At(Newtonian),
-    Refused(Refusal),
-}
-
+#[tactic(auto, unfolding(crate::specs::Vectors::difference))]
 pub fn difference(a: Vector, b: Vector) -> Vector
     ensures { result ≡ difference a b }
 {
@@ -52,18 +44,21 @@ pub fn difference(a: Vector, b: Vector) -> Vector
     }
 }
 
+#[tactic(auto, unfolding(crate::specs::Vectors::dot))]
 pub fn dot(a: Vector, b: Vector) -> f64
     ensures { result ≡ dot a b }
 {
     a.x * b.x + a.y * b.y + a.z * b.z
 }
 
+#[tactic(auto, unfolding(crate::specs::Vectors::norm))]
 pub fn norm(a: Vector) -> f64
     ensures { result ≡ norm a }
 {
     roots::root(dot(a, a))
 }
 
+#[tactic(auto, unfolding(crate::specs::Vectors::cross))]
 pub fn cross(a: Vector, b: Vector) -> Vector
     ensures { result ≡ cross a b }
 {
@@ -75,6 +70,7 @@ pub fn cross(a: Vector, b: Vector) -> Vector
 }
 
 // a / n
+#[tactic(auto, unfolding(crate::specs::Vectors::over))]
 pub fn over(a: Vector, n: f64) -> Vector
     ensures { result ≡ over a n }
 {
@@ -86,6 +82,7 @@ pub fn over(a: Vector, n: f64) -> Vector
 }
 
 // k I
+#[tactic(auto, unfolding(crate::specs::Vectors::diagonal))]
 pub fn diagonal(k: f64) -> Hessian
     ensures { result ≡ diagonal k }
 {
@@ -133,6 +130,7 @@ pub fn add_fields(f: Newtonian, g: Newtonian) -> Newtonian
 }
 
 // Where a sum of fields starts.
+#[tactic(auto, unfolding(crate::specs::Vectors::zero_field))]
 pub fn zero_field() -> Newtonian
     ensures { result ≡ zero_field }
 {
@@ -198,29 +196,108 @@ pub fn add_point(w: f64, d: Vector, f: Newtonian) -> Newtonian
 }
 
 // Refusal 3's test of a vector.
+#[tactic(auto, unfolding(crate::specs::Vectors::vector_within_limits))]
 pub fn vector_within_limits(v: Vector) -> bool
     ensures { result ≡ vector_within_limits v }
 {
     doubles::within_limits(v.x) & doubles::within_limits(v.y) & doubles::within_limits(v.z)
 }
 
-// A field's numbers: the potential, the gradient, and the Hessian row by row.
-pub fn field_numbers(f: Newtonian) -> [f64; FIELD_SIZE]
-    ensures { result ≡ field_numbers f }
-{
-    [
-        f.potential,
-        f.gradient.x,
-        f.gradient.y,
-        f.gradient.z,
-        f.hessian.x.x,
-        f.hessian.x.y,
-        f.hessian.x.z,
-        f.hessian.y.x,
-        f.hessian.y.y,
-        f.hessian.y.z,
-        f.hessian.z.x,
-        f.hessian.z.y,
-        f.hessian.z.z,
-    ]
+// ---- the numbers in order, field by field: nothing derives a struct from an array
+
+impl From<[f64; 3]> for Vector {
+    ghost use Rattle.std.specs.Prelude.{◌≡◌};
+    ghost use Rattle.newtonian.specs.Numbers.{vector_of};
+
+    ghost from_gives = { λ v r. r ≡ vector_of v };
+
+    #[tactic(auto, unfolding(crate::specs::Numbers::vector_of))]
+    fn from(v: [f64; 3]) -> Vector {
+        Vector {
+            x: v[0],
+            y: v[1],
+            z: v[2],
+        }
+    }
+}
+
+impl From<Vector> for [f64; 3] {
+    ghost use Rattle.std.specs.Prelude.{◌≡◌};
+    ghost use Rattle.newtonian.specs.Vectors.{vector_numbers};
+
+    ghost from_gives = { λ v r. r ≡ vector_numbers v };
+
+    fn from(v: Vector) -> [f64; 3] {
+        [v.x, v.y, v.z]
+    }
+}
+
+// Row by row.
+impl From<[f64; 9]> for Hessian {
+    ghost use Rattle.std.specs.Prelude.{◌≡◌};
+    ghost use Rattle.newtonian.specs.Numbers.{hessian_of};
+
+    ghost from_gives = { λ t r. r ≡ hessian_of t };
+
+    #[tactic(auto, unfolding(crate::specs::Numbers::hessian_of))]
+    fn from(t: [f64; 9]) -> Hessian {
+        Hessian {
+            x: Vector {
+                x: t[0],
+                y: t[1],
+                z: t[2],
+            },
+            y: Vector {
+                x: t[3],
+                y: t[4],
+                z: t[5],
+            },
+            z: Vector {
+                x: t[6],
+                y: t[7],
+                z: t[8],
+            },
+        }
+    }
+}
+
+impl From<Hessian> for [f64; 9] {
+    ghost use Rattle.std.specs.Prelude.{◌≡◌};
+    ghost use Rattle.newtonian.specs.Numbers.{hessian_numbers};
+
+    ghost from_gives = { λ t r. r ≡ hessian_numbers t };
+
+    #[tactic(auto, unfolding(crate::specs::Numbers::hessian_numbers))]
+    fn from(t: Hessian) -> [f64; 9] {
+        [
+            t.x.x, t.x.y, t.x.z, t.y.x, t.y.y, t.y.z, t.z.x, t.z.y, t.z.z,
+        ]
+    }
+}
+
+// The potential, the gradient, and the Hessian row by row.
+impl From<Newtonian> for [f64; FIELD_SIZE] {
+    ghost use Rattle.std.specs.Prelude.{◌≡◌};
+    ghost use Rattle.newtonian.specs.Vectors.{field_numbers};
+
+    ghost from_gives = { λ f r. r ≡ field_numbers f };
+
+    #[tactic(auto, unfolding(crate::specs::Vectors::field_numbers))]
+    fn from(f: Newtonian) -> [f64; FIELD_SIZE] {
+        [
+            f.potential,
+            f.gradient.x,
+            f.gradient.y,
+            f.gradient.z,
+            f.hessian.x.x,
+            f.hessian.x.y,
+            f.hessian.x.z,
+            f.hessian.y.x,
+            f.hessian.y.y,
+            f.hessian.y.z,
+            f.hessian.z.x,
+            f.hessian.z.y,
+            f.hessian.z.z,
+        ]
+    }
 }

@@ -13,12 +13,11 @@ use Rattle.sheet.specs.Input.{SheetInput}
 use Rattle.sheet.specs.Bytes.{sheet_size}
 use Rattle.sheet.specs.Checker.{verdict_answer, check_sheet}
 use Rattle.sheet.specs.Promises.{NoCause, Right, Kept}
-use Rattle.sheet.specs.declared.Verdict.{Verdict}
-use Rattle.sheet.specs.declared.Verdict as verdicts
-use Rattle.writer.specs.declared.Written.{Written}
-use Rattle.writer.specs.declared.Written as writtens
-use Rattle.writer.specs.Written.{written_answer, Writes}
-use Rattle.physica_lent.specs.Exported.{itself, GivesValues}
+use Rattle.std.specs.Prelude.{Ok, Err}
+use Rattle.refusals.specs.Answer.{Answer}
+use Rattle.sheet.specs.declared.Accepted.{Accepted}
+use Rattle.writer.specs.Written.{Writes}
+use Rattle.physica_lent.specs.Exported.{itself, accepted_numbers, GivesValues}
 use Rattle.physica_lent.specs.Sheets.{WritesLent, ChecksLent}
 
 -- no refusal has the number 0
@@ -47,19 +46,19 @@ number-least (WrongRow station) = omega arith
 -- ---- the writer
 
 -- 0 means written, and the length is the size
-zero-written : (a : Written) {r n m : ℕ} {vs : List ℕ} → GivesValues itself (written_answer a) r n m vs → r ≡ 0 → a ≡ writtens.TheVariants.Bytes m
-zero-written (writtens.TheVariants.Bytes k) g e = ap {B = Written} writtens.TheVariants.Bytes (sym g.out)
-zero-written (writtens.TheVariants.Refused q) g e = absurd (omega (arith, number-least q, g.number))
+zero-written : (a : Answer ℕ) {r n m : ℕ} {vs : List ℕ} → GivesValues itself a r n m vs → r ≡ 0 → a ≡ Ok m
+zero-written (Ok k) g e = ap {B = Answer ℕ} Ok (sym g.out)
+zero-written (Err q) g e = absurd (omega (arith, number-least q, g.number))
 
-written-zero : (a : Written) {r n m : ℕ} {vs : List ℕ} (k : ℕ) → GivesValues itself (written_answer a) r n m vs → a ≡ writtens.TheVariants.Bytes k → r ≡ 0
-written-zero (writtens.TheVariants.Bytes j) k g e = g.number
-written-zero (writtens.TheVariants.Refused q) k g e = absurd (let z : ◌≡◌ {A = ℕ} 0 1 = cc in omega arith)
+written-zero : (a : Answer ℕ) {r n m : ℕ} {vs : List ℕ} (k : ℕ) → GivesValues itself a r n m vs → a ≡ Ok k → r ≡ 0
+written-zero (Ok j) k g e = g.number
+written-zero (Err q) k g e = absurd (let z : ◌≡◌ {A = ℕ} 0 1 = cc in omega arith)
 
-same_size : (a : Written) (j k : ℕ) → a ≡ writtens.TheVariants.Bytes j → a ≡ writtens.TheVariants.Bytes k → j ≡ k
+same_size : (a : Answer ℕ) (j k : ℕ) → a ≡ Ok j → a ≡ Ok k → j ≡ k
 same_size a j k p q = cc
 
-pub writes_lent : {s : SheetInput} {w o p q : List ℕ} {a : Written} {r n m : ℕ} {vs : List ℕ}
-    → Writes s w o a p q → GivesValues itself (written_answer a) r n m vs → WritesLent s w o p q r n m vs
+pub writes_lent : {s : SheetInput} {w o p q : List ℕ} {a : Answer ℕ} {r n m : ℕ} {vs : List ℕ}
+    → Writes s w o a p q → GivesValues itself a r n m vs → WritesLent s w o p q r n m vs
 writes_lent {s} {q = q} {a = a} {m = m} h g = record {
   answer = rw (← h.answer) g;
   work = h.work;
@@ -73,15 +72,20 @@ writes_lent {s} {q = q} {a = a} {m = m} h g = record {
 
 -- ---- the checker
 
-zero-accepted : (a : Verdict) {r : ℕ} {n m vs : List ℕ} → GivesValues itself (verdict_answer a) r n m vs → r ≡ 0
-    → a ≡ verdicts.TheVariants.Accepted (get_or m 0 0) (get_or m 1 0)
-zero-accepted (verdicts.TheVariants.Accepted k s) g e = rw g.out
-zero-accepted (verdicts.TheVariants.Refused q) g e = absurd (omega (arith, number-least q, g.number))
+-- the numbers of `verdict_answer` are those that are given
+of_verdict : (a : Answer Accepted) {r : ℕ} {n m vs : List ℕ} → GivesValues accepted_numbers a r n m vs → GivesValues itself (verdict_answer a) r n m vs
+of_verdict (Ok a) g = record { number = g.number; out = g.out; values = g.values }
+of_verdict (Err q) g = record { number = g.number; out = g.out; values = g.values }
 
-pub checks_lent : (b : List ℕ) (a : Verdict) {r : ℕ} {n m vs : List ℕ}
-    → verdict_answer a ≡ check_sheet b → ((k s : ℕ) → a ≡ verdicts.TheVariants.Accepted k s → Right b k s)
-    → GivesValues itself (verdict_answer a) r n m vs → ChecksLent b r n m vs
+zero-accepted : (a : Answer Accepted) {r : ℕ} {n m vs : List ℕ} → GivesValues accepted_numbers a r n m vs → r ≡ 0
+    → a ≡ Ok (record { kind = get_or m 0 0; stations = get_or m 1 0 })
+zero-accepted (Ok a) g e = rw g.out
+zero-accepted (Err q) g e = absurd (omega (arith, number-least q, g.number))
+
+pub checks_lent : (b : List ℕ) (a : Answer Accepted) {r : ℕ} {n m vs : List ℕ}
+    → verdict_answer a ≡ check_sheet b → ((k s : ℕ) → a ≡ Ok (record { kind = k; stations = s }) → Right b k s)
+    → GivesValues accepted_numbers a r n m vs → ChecksLent b r n m vs
 checks_lent b a {m = m} h right g = record {
-  answer = rw (← h) g;
+  answer = rw (← h) (of_verdict a g);
   right = λ e. right (get_or m 0 0) (get_or m 1 0) (zero-accepted a g e);
 }

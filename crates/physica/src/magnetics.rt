@@ -1,4 +1,4 @@
-// Magnetic fields and demagnetisation.
+// Magnetic fields and demagnetisation. C passes pointers to numbers, so vectors and tensors come as arrays.
 ghost use Rattle.anomaly.specs.Body.{body};
 ghost use Rattle.anomaly.specs.TotalField.{total_field};
 ghost use Rattle.anomaly_sphere.specs.Sphere.{sphere};
@@ -8,8 +8,8 @@ ghost use Rattle.demagnetisation.specs.Magnetisation.{magnetisation, koenigsberg
 ghost use Rattle.newtonian.specs.Vectors.{vector_numbers};
 ghost use Rattle.physica_lent.specs.Exported.{vector_of, hessian_of, itself, Gives};
 
-use physica_lent::give::{give_number, give_vector};
-use physica_lent::take::{hessian_of, vector_of};
+use newtonian::{Hessian, Vector};
+use physica_lent::give::give;
 
 // The field (T) of a body of that Hessian and magnetisation: 3.
 #[unsafe(no_mangle)]
@@ -20,8 +20,8 @@ pub extern "C" fn physica_body(
 ) -> u32
     ensures { Gives vector_numbers (body (hessian_of hessian.now) (vector_of magnetisation.now)) result out.old out.new }
 {
-    let field = anomaly::body(hessian_of(hessian), vector_of(magnetisation));
-    give_vector(field, out)
+    let field = anomaly::body(Hessian::from(*hessian), Vector::from(*magnetisation));
+    give(field, out)
 }
 
 // The total-field anomaly (T): 3.
@@ -29,8 +29,8 @@ pub extern "C" fn physica_body(
 pub extern "C" fn physica_total_field(ambient: &[f64; 3], anomaly: &[f64; 3], out: &mut f64) -> u32
     ensures { Gives itself (total_field (vector_of ambient.now) (vector_of anomaly.now)) result out.old out.new }
 {
-    give_number(
-        anomaly::total_field(vector_of(ambient), vector_of(anomaly)),
+    give(
+        anomaly::total_field(Vector::from(*ambient), Vector::from(*anomaly)),
         out,
     )
 }
@@ -46,12 +46,12 @@ pub extern "C" fn physica_sphere(
 ) -> u32
     ensures { Gives vector_numbers (sphere (vector_of p.now) (vector_of centre.now) radius (vector_of magnetisation.now)) result out.old out.new }
 {
-    give_vector(
+    give(
         anomaly_sphere::sphere(
-            vector_of(p),
-            vector_of(centre),
+            Vector::from(*p),
+            Vector::from(*centre),
             radius,
-            vector_of(magnetisation),
+            Vector::from(*magnetisation),
         ),
         out,
     )
@@ -69,13 +69,13 @@ pub extern "C" fn physica_cylinder(
 ) -> u32
     ensures { Gives vector_numbers (cylinder (vector_of p.now) (vector_of point.now) (vector_of axis.now) radius (vector_of magnetisation.now)) result out.old out.new }
 {
-    give_vector(
+    give(
         anomaly_cylinder::cylinder(
-            vector_of(p),
-            vector_of(point),
-            vector_of(axis),
+            Vector::from(*p),
+            Vector::from(*point),
+            Vector::from(*axis),
             radius,
-            vector_of(magnetisation),
+            Vector::from(*magnetisation),
         ),
         out,
     )
@@ -86,7 +86,7 @@ pub extern "C" fn physica_cylinder(
 pub extern "C" fn physica_ellipsoid_factors(a: f64, b: f64, c: f64, out: &mut [f64; 3]) -> u32
     ensures { Gives vector_numbers (ellipsoid_factors a b c) result out.old out.new }
 {
-    give_vector(demagnetisation::ellipsoid_factors(a, b, c), out)
+    give(demagnetisation::ellipsoid_factors(a, b, c), out)
 }
 
 // The magnetisation (A/m) of a body of demagnetising tensor n: 3.
@@ -100,10 +100,9 @@ pub extern "C" fn physica_magnetisation(
 ) -> u32
     ensures { Gives vector_numbers (magnetisation chi (vector_of h0.now) (vector_of remanent.now) (hessian_of n.now)) result out.old out.new }
 {
-    give_vector(
-        demagnetisation::magnetisation(chi, vector_of(h0), vector_of(remanent), hessian_of(n)),
-        out,
-    )
+    let (h0, remanent) = (Vector::from(*h0), Vector::from(*remanent));
+    let answer = demagnetisation::magnetisation(chi, h0, remanent, Hessian::from(*n));
+    give(answer, out)
 }
 
 // The ratio of remanent to induced magnetisation: 3.
@@ -116,8 +115,8 @@ pub extern "C" fn physica_koenigsberger(
 ) -> u32
     ensures { Gives itself (koenigsberger (vector_of remanent.now) chi (vector_of h0.now)) result out.old out.new }
 {
-    give_number(
-        demagnetisation::koenigsberger(vector_of(remanent), chi, vector_of(h0)),
+    give(
+        demagnetisation::koenigsberger(Vector::from(*remanent), chi, Vector::from(*h0)),
         out,
     )
 }

@@ -6,8 +6,9 @@ ghost use Rattle.sheet_readers.specs.Parts.{station_part, sheet_trailer, length_
 ghost use Rattle.physica_lent.specs.Exported.{Gives};
 ghost use Rattle.physica_lent.specs.Sheets.{sheet_input, WritesLent, ChecksLent, numbers_given, row_after, coordinates_given, station_after, trailer_counts, trailer_numbers};
 
-use physica_lent::give::{give_trailer, give_verdict, give_written};
-use physica_lent::take::{row_numbers, station_numbers, vector_of};
+use newtonian::Vector;
+use physica_lent::give::{give_trailer, give_values};
+use physica_lent::take::numbers_of;
 use sheet_readers::STATION_LENGTH;
 use sheet_rows::kinds::{PLAIN_BYTES, PLAIN_WIDTH};
 
@@ -29,9 +30,9 @@ pub extern "C" fn physica_write_sheet(
     ensures { WritesLent (sheet_input kind verts.now faces.now magnetisation.now ambient.now stations.now)
         work.old out.old work.new out.new result size.old size.new values.new }
 {
-    let m = vector_of(magnetisation);
-    let b = vector_of(ambient);
-    give_written(
+    let m = Vector::from(*magnetisation);
+    let b = Vector::from(*ambient);
+    give_values(
         writer::write_sheet(kind, verts, faces, m, b, stations, work, out),
         size,
         values,
@@ -48,7 +49,7 @@ pub extern "C" fn physica_check_sheet(
 ) -> u32
     ensures { ChecksLent sheet.now result found.old found.new values.new }
 {
-    give_verdict(checker::check_sheet(sheet), found, values)
+    give_values(checker::check_sheet(sheet), found, values)
 }
 
 // What stands in the trailer: kind, V, F and S; magnetisation, ambient field and volume: 16, 1, 2.
@@ -74,8 +75,7 @@ pub extern "C" fn physica_sheet_station(sheet: &[u8], i: usize, out: &mut [f64; 
     if station.len() < STATION_LENGTH {
         return 0;
     }
-    let numbers = station_numbers(station);
-    *out = numbers;
+    *out = numbers_of(station);
     3
 }
 
@@ -99,8 +99,7 @@ pub extern "C" fn physica_sheet_row(sheet: &[u8], i: usize, out: &mut [f64; PLAI
     if row.len() < PLAIN_BYTES {
         return 0;
     }
-    let numbers = row_numbers(row);
-    *out = numbers;
+    *out = numbers_of(row);
     PLAIN_WIDTH
 }
 

@@ -1,28 +1,13 @@
 -- What an exported call takes, returns and writes, as lists of numbers, from the public call's answer. Definitions only.
-use Rattle.std.specs.Prelude.{◌≡◌, List, [], ◌∷◌, ℕ, get_or, Float}
-use Rattle.std.specs.Float.{nan}
+use Rattle.std.specs.Prelude.{◌≡◌, List, [], ◌∷◌, ℕ, Float, Ok, Err}
 use Rattle.refusals.specs.Numbers.{number_of, values_of}
-use Rattle.refusals.specs.Answer.{Answer, value, refused}
-use Rattle.refusals.specs.declared.Cause.{Cause}
-use Rattle.refusals.specs.declared.Cause.TheVariants.{None, Refused}
-use Rattle.newtonian.specs.declared.Vector.{Vector}
-use Rattle.newtonian.specs.declared.Hessian.{Hessian}
+use Rattle.refusals.specs.Answer.{Answer}
+use Rattle.refusals.specs.Causes.{Cause}
 use Rattle.rings.specs.declared.Complete.{Complete}
 use Rattle.rings.specs.declared.RingAverage.{RingAverage}
 use Rattle.legendre.specs.declared.Rule.{Rule}
-
--- ---- what a call takes
-
-unfoldable pub vector_of : List Float → Vector
-vector_of v = record { x = get_or v 0 nan; y = get_or v 1 nan; z = get_or v 2 nan }
-
--- row by row
-unfoldable pub hessian_of : List Float → Hessian
-hessian_of t = record {
-  x = record { x = get_or t 0 nan; y = get_or t 1 nan; z = get_or t 2 nan };
-  y = record { x = get_or t 3 nan; y = get_or t 4 nan; z = get_or t 5 nan };
-  z = record { x = get_or t 6 nan; y = get_or t 7 nan; z = get_or t 8 nan };
-}
+use Rattle.sheet.specs.declared.Accepted.{Accepted}
+pub use Rattle.newtonian.specs.Numbers.{vector_of, hessian_of}
 
 -- ---- the numbers of an answer
 
@@ -37,6 +22,10 @@ complete_numbers c = c.k ∷ c.e ∷ []
 abbrev pub ring_numbers : RingAverage → List Float
 ring_numbers a = a.v ∷ a.drho ∷ a.dz ∷ []
 
+-- kind and S
+abbrev pub accepted_numbers : Accepted → List ℕ
+accepted_numbers a = a.kind ∷ a.stations ∷ []
+
 abbrev pub nodes_of : Rule → List Float
 nodes_of rule = rule.nodes
 
@@ -47,13 +36,13 @@ weights_of rule = rule.weights
 
 -- 0 for an answer, else the refusal's number
 abbrev pub returned : {S : Type 0} → Answer S → ℕ
-returned (value v) = 0
-returned (refused r) = number_of r
+returned (Ok v) = 0
+returned (Err r) = number_of r
 
 -- the answer's numbers; what stood there, under a refusal
 abbrev pub written : {S T : Type 0} → (S → T) → Answer S → T → T
-written numbers (value v) before = numbers v
-written numbers (refused r) before = before
+written numbers (Ok v) before = numbers v
+written numbers (Err r) before = before
 
 -- the first two of a list, with zeros for those that it does not have
 abbrev pub two : List ℕ → List ℕ
@@ -63,8 +52,8 @@ two (v ∷ w ∷ vs) = v ∷ w ∷ []
 
 -- a refusal's values, a face, an edge's from and to, or a station, with zeros after them; zeros after an answer
 abbrev pub values_after : {S : Type 0} → Answer S → List ℕ
-values_after (value v) = 0 ∷ 0 ∷ []
-values_after (refused r) = two (values_of r)
+values_after (Ok v) = 0 ∷ 0 ∷ []
+values_after (Err r) = two (values_of r)
 
 -- ---- a call's contract
 
@@ -80,10 +69,6 @@ pub record GivesValues {S T : Type 0} (numbers : S → T) (a : Answer S) (r : �
   pub values : vs ≡ values_after a
 
 -- the same of a call whose answer is whether it refuses: it returns 0 or the refusal's number, and writes the refusal's values
-abbrev pub cause_answer : Cause → Answer (List ℕ)
-cause_answer None = value []
-cause_answer (Refused r) = refused r
-
 pub record GivesCause (c : Cause) (r : ℕ) (vs : List ℕ) : Type 0 where
-  pub number : r ≡ returned (cause_answer c)
-  pub values : vs ≡ values_after (cause_answer c)
+  pub number : r ≡ returned c
+  pub values : vs ≡ values_after c

@@ -2,4 +2,5 @@
 #![tactic(auto)]
 
 pub mod give;
+pub mod numbers;
 pub mod take;

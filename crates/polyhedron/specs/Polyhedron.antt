@@ -6,8 +6,9 @@ use Rattle.doubles.specs.Rounded.{◌⊗◌}
 use Rattle.doubles.specs.Constants.{5·0}
 use Rattle.roots.specs.Root.{Root}
 use Rattle.refusals.specs.Causes.{or_else, unless}
-use Rattle.refusals.specs.Answer.{Answer, value, or_answer}
-use Rattle.refusals.specs.declared.Cause.{Cause}
+use Rattle.std.specs.Prelude.{Ok}
+use Rattle.refusals.specs.Answer.{Answer, or_answer}
+use Rattle.refusals.specs.Causes.{Cause}
 use Rattle.refusals.specs.declared.Refusal.TheVariants.{OutOfLimits}
 use Rattle.newtonian.specs.Vectors.{vector_within_limits}
 use Rattle.newtonian.specs.declared.Vector.{Vector}
@@ -29,7 +30,7 @@ is_far p c r = lt (polyhedron_far ⊗ r) (Root (squared_distance p c))
 
 -- the field of a checked mesh whose centroid c and radius r are at hand
 unfoldable pub polyhedron_from : ℕ → Vector → Vector → Float → List Float → List ℕ → Answer Newtonian
-polyhedron_from i p c r v f = cond (is_far p c r) (value (tetrahedra p c v f)) (edge_face_sums i p v f)
+polyhedron_from i p c r v f = cond (is_far p c r) (Ok (tetrahedra p c v f)) (edge_face_sums i p v f)
 
 -- the field of a checked mesh
 unfoldable pub polyhedron_at : ℕ → Vector → List Float → List ℕ → Answer Newtonian

@@ -8,11 +8,11 @@ use Rattle.std.proofs.Common.{sym, ap, inl, inr, arith}
 use Rattle.std.proofs.Math.Dec.{eqb, leb}
 use Rattle.refusals.specs.Numbers.{number_of}
 use Rattle.refusals.specs.Causes.{or_else, unless}
-use Rattle.refusals.specs.Answer.{Answer, value, refused, or_answer}
+use Rattle.std.specs.Prelude.{Ok, Err}
+use Rattle.refusals.specs.Answer.{Answer, or_answer}
+use Rattle.refusals.specs.Causes.{Cause}
 use Rattle.refusals.specs.declared.Refusal.{Refusal}
 use Rattle.refusals.specs.declared.Refusal.TheVariants.{Malformed, TooMany, OutOfLimits, TooShort, TooManyEdges}
-use Rattle.refusals.specs.declared.Cause.{Cause}
-use Rattle.refusals.specs.declared.Cause.TheVariants.{None, Refused}
 use Rattle.newtonian.specs.Vectors.{vector_within_limits}
 use Rattle.newtonian.specs.declared.Vector.{Vector}
 use Rattle.newtonian.specs.declared.Newtonian.{Newtonian}
@@ -33,23 +33,23 @@ at_from i p v f = refl
 
 -- ---- a checked mesh is refused by 11 with the station's number alone
 
-of_near : (b : Bool) (x : Newtonian) (i : ℕ) (r : Refusal) → cond b (value x) (refused (TooManyEdges i)) ≡ refused r → r ≡ TooManyEdges i
+of_near : (b : Bool) (x : Newtonian) (i : ℕ) (r : Refusal) → cond b (Ok x) (Err (TooManyEdges i)) ≡ Err r → r ≡ TooManyEdges i
 of_near true x i r e = cc
 of_near false x i r e = cc
 
-of_far : (b : Bool) (x : Newtonian) (a : Answer Newtonian) (r s : Refusal) → (a ≡ refused r → r ≡ s) → cond b (value x) a ≡ refused r → r ≡ s
+of_far : (b : Bool) (x : Newtonian) (a : Answer Newtonian) (r s : Refusal) → (a ≡ Err r → r ≡ s) → cond b (Ok x) a ≡ Err r → r ≡ s
 of_far true x a r s h e = cc
 of_far false x a r s h e = h e
 
-near-refused : (i : ℕ) (p : Vector) (v : List Float) (f : List ℕ) (r : Refusal) → edge_face_sums i p v f ≡ refused r → r ≡ TooManyEdges i
+near-refused : (i : ℕ) (p : Vector) (v : List Float) (f : List ℕ) (r : Refusal) → edge_face_sums i p v f ≡ Err r → r ≡ TooManyEdges i
 unfolding edge_face_sums
 near-refused i p v f r e = of_near (leb (length (sums_of p v f).edges) edge_limit) (field_of (sums_of p v f)) i r e
 
-pub from-refused : (i : ℕ) (p c : Vector) (s : Float) (v : List Float) (f : List ℕ) (r : Refusal) → polyhedron_from i p c s v f ≡ refused r → r ≡ TooManyEdges i
+pub from-refused : (i : ℕ) (p c : Vector) (s : Float) (v : List Float) (f : List ℕ) (r : Refusal) → polyhedron_from i p c s v f ≡ Err r → r ≡ TooManyEdges i
 unfolding polyhedron_from
 from-refused i p c s v f r e = of_far (is_far p c s) (tetrahedra p c v f) (edge_face_sums i p v f) r (TooManyEdges i) (near-refused i p v f r) e
 
-pub at-refused : (i : ℕ) (p : Vector) (v : List Float) (f : List ℕ) (r : Refusal) → polyhedron_at i p v f ≡ refused r → r ≡ TooManyEdges i
+pub at-refused : (i : ℕ) (p : Vector) (v : List Float) (f : List ℕ) (r : Refusal) → polyhedron_at i p v f ≡ Err r → r ≡ TooManyEdges i
 unfolding polyhedron_at
 at-refused i p v f r e = from-refused i p (centroid v f) (radius (centroid v f) v f) v f r e
 
@@ -61,11 +61,11 @@ InputRefusal r = (number_of r ≤ 8) ⊎ (r ≡ TooShort)
 
 -- the cause c refuses by these alone
 InputCause : Cause → Type 0
-InputCause c = (r : Refusal) → c ≡ Refused r → InputRefusal r
+InputCause c = (r : Refusal) → c ≡ Err r → InputRefusal r
 
 input_else : (c d : Cause) → InputCause c → InputCause d → InputCause (or_else c d)
-input_else None d p q = q
-input_else (Refused x) d p q = p
+input_else (Ok _) d p q = q
+input_else (Err x) d p q = p
 
 input_unless : (t : Bool) (s : Refusal) → InputRefusal s → InputCause (unless t s)
 unfolding InputCause
@@ -93,7 +93,7 @@ module _ (v : List Float) (f : List ℕ) where
       input_else (no_such_vertex (vertex_count v) f) (order_cause v f (order_list f)) (input_within 4 4 (no_such_vertex (vertex_count v) f) (omega arith) (only-vertex v f))
       (input_within 5 8 (order_cause v f (order_list f)) (omega arith) (only-order v f (order_list f)))
 
-  pub cause-refused : (p : Vector) (n : ℕ) (r : Refusal) → polyhedron_cause p v f n ≡ Refused r → InputRefusal r
+  pub cause-refused : (p : Vector) (n : ℕ) (r : Refusal) → polyhedron_cause p v f n ≡ Err r → InputRefusal r
   unfolding polyhedron_cause given_cause InputCause
   cause-refused p n =
       input_else (given_cause p v f n) (surface_cause v f)
@@ -101,10 +101,10 @@ module _ (v : List Float) (f : List ℕ) where
       (input_else (out_of_limits v) (station_out_of_limits p) input-numbers (input_unless (vector_within_limits p) OutOfLimits (inl (omega arith)))))
       input_surface
 
-  polyhedron_in_order : (c : Cause) (a : Answer Newtonian) (r : Refusal) → (c ≡ Refused r → InputRefusal r) → (a ≡ refused r → r ≡ TooManyEdges 0) → or_answer c a ≡ refused r → InputRefusal r ⊎ (r ≡ TooManyEdges 0)
-  polyhedron_in_order None a r h g e = inr (g e)
-  polyhedron_in_order (Refused x) a r h g e = let q : Refused x ≡ Refused r = cc in inl (h q)
+  polyhedron_in_order : (c : Cause) (a : Answer Newtonian) (r : Refusal) → (c ≡ Err r → InputRefusal r) → (a ≡ Err r → r ≡ TooManyEdges 0) → or_answer c a ≡ Err r → InputRefusal r ⊎ (r ≡ TooManyEdges 0)
+  polyhedron_in_order (Ok _) a r h g e = inr (g e)
+  polyhedron_in_order (Err x) a r h g e = let q : Err x ≡ Err r = cc in inl (h q)
 
-  pub polyhedron-refused : (p : Vector) (n : ℕ) (r : Refusal) → polyhedron p v f n ≡ refused r → InputRefusal r ⊎ (r ≡ TooManyEdges 0)
+  pub polyhedron-refused : (p : Vector) (n : ℕ) (r : Refusal) → polyhedron p v f n ≡ Err r → InputRefusal r ⊎ (r ≡ TooManyEdges 0)
   unfolding polyhedron
   polyhedron-refused p n r e = polyhedron_in_order (polyhedron_cause p v f n) (polyhedron_at 0 p v f) r (cause-refused p n r) (at-refused 0 p v f r) e

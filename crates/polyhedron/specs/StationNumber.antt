@@ -3,7 +3,8 @@
 -- `polyhedron_at-too_many`: what is refused under one number is refused under every other, by 11 with that number.
 use Rattle.std.specs.Prelude.{◌≡◌, refl, Bool, true, false, cond, List, ℕ, leb, length, Float}
 use Rattle.std.proofs.Common.{sym, ap, ◌∙◌}
-use Rattle.refusals.specs.Answer.{Answer, value, refused}
+use Rattle.std.specs.Prelude.{Ok, Err}
+use Rattle.refusals.specs.Answer.{Answer}
 use Rattle.refusals.specs.declared.Refusal.{Refusal}
 use Rattle.refusals.specs.declared.Refusal.TheVariants.{TooManyEdges}
 use Rattle.newtonian.specs.declared.Vector.{Vector}
@@ -16,16 +17,16 @@ use Rattle.polyhedron.specs.Polyhedron.{is_far, polyhedron_from, polyhedron_at}
 
 -- an answer under the number j: the same field, or 11 with j
 abbrev too_many_under : ℕ → Answer Newtonian → Answer Newtonian
-too_many_under j (value g) = value g
-too_many_under j (refused r) = refused (TooManyEdges j)
+too_many_under j (Ok g) = Ok g
+too_many_under j (Err r) = Err (TooManyEdges j)
 
 under_near : (t : Bool) (x : Newtonian) (i j : ℕ)
-    → too_many_under j (cond t (value x) (refused (TooManyEdges i))) ≡ cond t (value x) (refused (TooManyEdges j))
+    → too_many_under j (cond t (Ok x) (Err (TooManyEdges i))) ≡ cond t (Ok x) (Err (TooManyEdges j))
 under_near true x i j = refl
 under_near false x i j = refl
 
 under_far : (t : Bool) (x : Newtonian) (j : ℕ) (a b : Answer Newtonian) → too_many_under j a ≡ b
-    → too_many_under j (cond t (value x) a) ≡ cond t (value x) b
+    → too_many_under j (cond t (Ok x) a) ≡ cond t (Ok x) b
 under_far true x j a b e = refl
 under_far false x j a b e = e
 
@@ -40,8 +41,8 @@ module _ (i j : ℕ) (p : Vector) (v : List Float) (f : List ℕ) where
       let c = centroid v f in
       under_far (is_far p c (radius c v f)) (tetrahedra p c v f) j (edge_face_sums i p v f) (edge_face_sums j p v f) under_sums
 
-  pub polyhedron_at-value : (g : Newtonian) → polyhedron_at i p v f ≡ value g → polyhedron_at j p v f ≡ value g
+  pub polyhedron_at-value : (g : Newtonian) → polyhedron_at i p v f ≡ Ok g → polyhedron_at j p v f ≡ Ok g
   polyhedron_at-value g e = sym under_number ∙ ap (too_many_under j) e
 
-  pub polyhedron_at-too_many : (r : Refusal) → polyhedron_at i p v f ≡ refused r → polyhedron_at j p v f ≡ refused (TooManyEdges j)
+  pub polyhedron_at-too_many : (r : Refusal) → polyhedron_at i p v f ≡ Err r → polyhedron_at j p v f ≡ Err (TooManyEdges j)
   polyhedron_at-too_many r e = sym under_number ∙ ap (too_many_under j) e

@@ -2,80 +2,71 @@
 #![tactic(auto)]
 
 ghost use Rattle.std.specs.Prelude.{◌≡◌, length};
-ghost use Rattle.newtonian.specs.Field.{answer_of};
 ghost use Rattle.mesh_orders.specs.Order.{order_list};
-ghost use Rattle.mesh.specs.Surface.{Body};
 ghost use Rattle.mesh.specs.Check.{work_after};
 ghost use Rattle.polyhedron.specs.Polyhedron.{is_far, polyhedron_from, polyhedron_at, given_cause, polyhedron_cause, polyhedron};
 
-use mesh::Solid;
-use newtonian::{Field, Vector};
-use refusals::{Cause, Refusal};
+use mesh::surface::Mesh;
+use newtonian::{Newtonian, Vector};
+use polyhedron_centroid::Center;
+use refusals::Refusal;
 
 // Beyond so many radii from the centroid the tetrahedra take over.
 const POLYHEDRON_FAR: f64 = 5.0;
 
-// Whether the tetrahedra take over at p, for the centroid c and the radius r.
-pub fn is_far(p: Vector, c: Vector, r: f64) -> bool
-    ensures { result ≡ is_far p c r }
+// Whether the tetrahedra take over at p.
+pub fn is_far(p: Vector, center: Center) -> bool
+    ensures { result ≡ is_far p center.centroid center.radius }
 {
-    roots::root(polyhedron_centroid::squared_distance(p, c)) > POLYHEDRON_FAR * r
+    let squared = polyhedron_centroid::squared_distance(p, center.centroid);
+    roots::root(squared) > POLYHEDRON_FAR * center.radius
 }
 
-// The field of a checked mesh at the station p of number i, with its centroid c and radius r. What it is given is not tested.
-pub fn polyhedron_at(i: u32, p: Vector, c: Vector, r: f64, verts: &[f64], faces: &[u32]) -> Field
-    requires { Body verts.now faces.now }
-    ensures { answer_of result ≡ polyhedron_from i p c r verts.now faces.now }
+// The field of a checked mesh at the station p of number i, with its center. What it is given is not tested.
+pub fn polyhedron_at(i: u32, p: Vector, center: Center, mesh: Mesh) -> Result<Newtonian, Refusal>
+    ensures { result ≡ polyhedron_from i p center.centroid center.radius mesh.entry.verts.now mesh.entry.faces.now }
 {
-    if is_far(p, c, r) {
-        return Field::At(polyhedron_far_one::tetrahedra(p, c, verts, faces));
+    if is_far(p, center) {
+        return Ok(polyhedron_far_one::tetrahedra(p, center.centroid, mesh));
     }
-    polyhedron_near::edge_face_sums(i, p, verts, faces)
+    polyhedron_near::edge_face_sums(i, p, mesh)
 }
 
 // The causes 1, 2, 12 and 3.
-fn given_cause(p: Vector, verts: &[f64], faces: &[u32], room: usize) -> Cause
+#[tactic(auto, unfolding(crate::specs::Polyhedron::given_cause))]
+fn given_cause(p: Vector, verts: &[f64], faces: &[u32], room: usize) -> Result<(), Refusal>
     ensures { result ≡ given_cause p verts.now faces.now room }
 {
-    let counts = mesh::count_cause(verts, faces, room);
-    if let Cause::Refused(r) = counts {
-        return Cause::Refused(r);
-    }
-    let numbers = mesh::scan::out_of_limits(verts);
-    if let Cause::Refused(r) = numbers {
-        return Cause::Refused(r);
-    }
+    mesh::count_cause(verts, faces, room)?;
+    mesh::scan::out_of_limits(verts)?;
     if newtonian::vector_within_limits(p) {
-        return Cause::None;
+        return Ok(());
     }
-    Cause::Refused(Refusal::OutOfLimits)
+    Err(Refusal::OutOfLimits)
 }
 
 // The field of a checked mesh at a single point, by its order list.
-fn single_point(p: Vector, verts: &[f64], faces: &[u32], order: &[u32]) -> Field
-    requires { Body verts.now faces.now × (order.now ≡ order_list faces.now) }
-    ensures { answer_of result ≡ polyhedron_at 0 p verts.now faces.now }
+fn single_point(p: Vector, mesh: Mesh, order: &[u32]) -> Result<Newtonian, Refusal>
+    requires { order.now ≡ order_list mesh.faces.now }
+    ensures { result ≡ polyhedron_at 0 p mesh.entry.verts.now mesh.entry.faces.now }
 {
-    let c = polyhedron_centroid::centroid(verts, faces, order);
-    let r = polyhedron_centroid::radius(c, verts, faces, order);
-    polyhedron_at(0, p, c, r, verts, faces)
+    polyhedron_at(0, p, Center::of(mesh, order), mesh)
 }
 
 // The field of a closed polyhedron at a station, at unit Gρ; or refused by 1, 2, 12, 3, 4, 5, 6, 7, 8 or 11. verts has
 // three coordinates to a vertex, faces three vertex numbers to a face, counter-clockwise seen from outside, and work,
 // which is lent, three entries or more to a face: the order list afterwards.
-pub fn polyhedron(station: Vector, verts: &[f64], faces: &[u32], work: &mut [u32]) -> Field
-    ensures result_value { answer_of result ≡ polyhedron station verts.now faces.now (length work.old) }
+pub fn polyhedron(
+    station: Vector,
+    verts: &[f64],
+    faces: &[u32],
+    work: &mut [u32],
+) -> Result<Newtonian, Refusal>
+    ensures result_value { result ≡ polyhedron station verts.now faces.now (length work.old) }
     ensures work_after { work.new ≡ work_after (polyhedron_cause station verts.now faces.now (length work.old)) faces.now work.old }
 {
-    let given = given_cause(station, verts, faces, work.len());
-    if let Cause::Refused(r) = given {
-        return Field::Refused(r);
-    }
-    let surface = mesh_check::check_surface(verts, faces, work);
-    if let Solid::Refused(r) = surface {
-        return Field::Refused(r);
-    }
+    given_cause(station, verts, faces, work.len())?;
+    mesh_check::check_surface(verts, faces, work)?;
     let n = faces.len();
-    single_point(station, verts, faces, &work[..n])
+    single_point(station, Mesh { verts, faces }, &work[..n])
 }

@@ -6,9 +6,10 @@ ghost use Rattle.lists.specs.Count.{Below};
 ghost use Rattle.doubles.specs.Constants.{0·0};
 ghost use Rattle.mesh_orders.specs.Edges.{Faces, max_faces};
 ghost use Rattle.mesh_orders.specs.Order.{order_list};
-ghost use Rattle.mesh.specs.Surface.{Body, vertex_count};
+ghost use Rattle.mesh.specs.Surface.{vertex_count};
 ghost use Rattle.polyhedron_centroid.specs.Centroid.{Steps, Takes, over_used, no_tally, add_vertex, tally_used, tally_mean, centroid, squared_distance, farther, radius};
 
+use mesh::surface::Mesh;
 use newtonian::{Vector, difference};
 
 // How many vertices, and their sum.
@@ -18,6 +19,7 @@ pub struct Tally {
     pub sum: Vector,
 }
 
+#[tactic(auto, unfolding(crate::specs::Centroid::no_tally))]
 fn no_tally() -> Tally
     ensures { result ≡ no_tally }
 {
@@ -59,11 +61,16 @@ fn fold_used<A: Copy, F: Fn(u32, A) -> A>(faces: &[u32], order: &[u32], first: A
     taken
 }
 
-fn tally_used(verts: &[f64], faces: &[u32], order: &[u32]) -> Tally
-    requires { Body verts.now faces.now × (order.now ≡ order_list faces.now) }
-    ensures { result ≡ tally_used verts.now faces.now }
+fn tally_used(mesh: Mesh, order: &[u32]) -> Tally
+    requires { order.now ≡ order_list mesh.faces.now }
+    ensures { result ≡ tally_used mesh.entry.verts.now mesh.entry.faces.now }
 {
-    fold_used(faces, order, no_tally(), |i, t| add_vertex(verts, i, t))
+    fold_used(
+        mesh.faces,
+        order,
+        no_tally(),
+        |i, t| add_vertex(mesh.verts, i, t),
+    )
 }
 
 fn tally_mean(t: Tally) -> Vector
@@ -73,11 +80,11 @@ fn tally_mean(t: Tally) -> Vector
 }
 
 // The mean of the used vertices of a body, by its order list.
-pub fn centroid(verts: &[f64], faces: &[u32], order: &[u32]) -> Vector
-    requires { Body verts.now faces.now × (order.now ≡ order_list faces.now) }
-    ensures { result ≡ centroid verts.now faces.now }
+pub fn centroid(mesh: Mesh, order: &[u32]) -> Vector
+    requires { order.now ≡ order_list mesh.faces.now }
+    ensures { result ≡ centroid mesh.entry.verts.now mesh.entry.faces.now }
 {
-    tally_mean(tally_used(verts, faces, order))
+    tally_mean(tally_used(mesh, order))
 }
 
 // The squared distance of a from c.
@@ -96,17 +103,40 @@ fn farther(c: Vector, verts: &[f64], i: u32, m: f64) -> f64
 }
 
 // The greatest squared distance of a used vertex from c.
-fn farthest(c: Vector, verts: &[f64], faces: &[u32], order: &[u32]) -> f64
-    requires { Body verts.now faces.now × (order.now ≡ order_list faces.now) }
-    ensures { result ≡ over_used faces.now (vertex_count verts.now) (farther c verts.now) 0·0 }
+fn farthest(c: Vector, mesh: Mesh, order: &[u32]) -> f64
+    requires { order.now ≡ order_list mesh.faces.now }
+    ensures { let v = mesh.entry.verts.now in
+        result ≡ over_used mesh.entry.faces.now (vertex_count v) (farther c v) 0·0 }
 {
-    fold_used(faces, order, 0.0, |i, m| farther(c, verts, i, m))
+    fold_used(mesh.faces, order, 0.0, |i, m| farther(c, mesh.verts, i, m))
 }
 
 // The greatest distance of a used vertex of a body from c, by its order list.
-pub fn radius(c: Vector, verts: &[f64], faces: &[u32], order: &[u32]) -> f64
-    requires { Body verts.now faces.now × (order.now ≡ order_list faces.now) }
-    ensures { result ≡ radius c verts.now faces.now }
+pub fn radius(c: Vector, mesh: Mesh, order: &[u32]) -> f64
+    requires { order.now ≡ order_list mesh.faces.now }
+    ensures { result ≡ radius c mesh.entry.verts.now mesh.entry.faces.now }
 {
-    roots::root(farthest(c, verts, faces, order))
+    roots::root(farthest(c, mesh, order))
+}
+
+// A mesh's centroid and radius, which are the same for every station.
+#[derive(Clone, Copy)]
+pub struct Center {
+    pub centroid: Vector,
+    pub radius: f64,
+}
+
+impl Center {
+    // Of a body, by its order list.
+    pub fn of(mesh: Mesh, order: &[u32]) -> Self
+        requires { order.now ≡ order_list mesh.faces.now }
+        ensures { let v = mesh.entry.verts.now in let f = mesh.entry.faces.now in
+            (result.centroid ≡ centroid v f) × (result.radius ≡ radius (centroid v f) v f) }
+    {
+        let centroid = centroid(mesh, order);
+        Center {
+            centroid,
+            radius: radius(centroid, mesh, order),
+        }
+    }
 }

@@ -17,12 +17,12 @@ use Rattle.newtonian.specs.declared.Hessian.{Hessian}
 use Rattle.newtonian.specs.declared.Vector.{Vector}
 use Rattle.polyhedron_on_edge.proofs.Adding.{held_few}
 use Rattle.polyhedron_on_edge.specs.OnEdge.{add_infinite, edge_limit}
-use Rattle.refusals.specs.Answer.{refused, value}
+use Rattle.std.specs.Prelude.{Ok, Err}
 use Rattle.refusals.specs.declared.Refusal.TheVariants.{TooManyEdges}
 
 -- the two answers
 module _ (i : ℕ) (p : Vector) (v : List Float) (f : List ℕ) (r : Running) (c : Carries (sums_of p v f) r) where
-  pub too_many : edge_limit < r.edges.count → refused (TooManyEdges i) ≡ edge_face_sums i p v f
+  pub too_many : edge_limit < r.edges.count → Err (TooManyEdges i) ≡ edge_face_sums i p v f
   unfolding edge_face_sums
   too_many l =
       ⊎_elim
@@ -31,7 +31,7 @@ module _ (i : ℕ) (p : Vector) (v : List Float) (f : List ℕ) (r : Running) (c
       (below? edge_limit (length (sums_of p v f).edges))
 
   pub not-too_many : r.edges.count ≤ edge_limit → (t : Hessian) → t ≡ symmetric (add_infinite (sums_of p v f).edges r.field.hessian)
-      → value (record { potential = r.field.potential; gradient = r.field.gradient; hessian = t }) ≡ edge_face_sums i p v f
+      → Ok (record { potential = r.field.potential; gradient = r.field.gradient; hessian = t }) ≡ edge_face_sums i p v f
   unfolding edge_face_sums field_of
   not-too_many l t q =
       let s = sums_of p v f in

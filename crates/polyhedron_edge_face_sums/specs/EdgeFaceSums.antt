@@ -2,7 +2,8 @@
 -- terms and then those of its three sides. v is the vertex list and f the face list of a mesh, p the station. Definitions only.
 use Rattle.std.specs.Prelude.{cond, List, [], ℕ, ◌+◌, ◌*◌, leb, length, get_or, Float}
 use Rattle.std.specs.Float.Ieee.Scale.{finite}
-use Rattle.refusals.specs.Answer.{Answer, value, refused}
+use Rattle.std.specs.Prelude.{Ok, Err}
+use Rattle.refusals.specs.Answer.{Answer}
 use Rattle.refusals.specs.declared.Refusal.TheVariants.{TooManyEdges}
 use Rattle.newtonian.specs.Fold.{Fold}
 use Rattle.newtonian.specs.Vectors.{dot, zero_field}
@@ -73,4 +74,4 @@ field_of s = record {
 unfoldable pub edge_face_sums : ℕ → Vector → List Float → List ℕ → Answer Newtonian
 edge_face_sums i p v f =
     let s = sums_of p v f in
-    cond (leb (length s.edges) edge_limit) (value (field_of s)) (refused (TooManyEdges i))
+    cond (leb (length s.edges) edge_limit) (Ok (field_of s)) (Err (TooManyEdges i))

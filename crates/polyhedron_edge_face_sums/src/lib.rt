@@ -1,16 +1,15 @@
 // The field of a polyhedron near it, by the edge and face sums of Werner & Scheeres (1997): a range of faces, face by face, and what the sums of all faces end in.
 #![tactic(auto)]
 
-ghost use Rattle.std.specs.Prelude.{◌≡◌, List, ℕ, ◌+◌, ◌≤◌, ◌<◌, Float};
-ghost use Rattle.newtonian.specs.Field.{answer_of};
-ghost use Rattle.mesh.specs.Surface.{Body, face_count};
+ghost use Rattle.std.specs.Prelude.{◌≡◌, List, ℕ, ◌<◌, Float};
+ghost use Rattle.mesh.specs.Surface.{face_count};
 ghost use Rattle.polyhedron_edge_terms.specs.EdgeTerms.{logarithm};
 ghost use Rattle.polyhedron_edge_terms.specs.declared.Corner.{Corner};
 ghost use Rattle.polyhedron_edge_face_sums.specs.EdgeFaceSums.{Sums, no_faces, triangle_of, add_side, add_triangle, sums_of, edge_face_sums};
 ghost use Rattle.polyhedron_edge_face_sums.specs.Carried.{Carries, Adds};
 
-use mesh::surface::corner;
-use newtonian::{Field, Newtonian, Vector, dot};
+use mesh::surface::{FaceRange, Mesh};
+use newtonian::{Newtonian, Vector, dot};
 use polyhedron_edge_terms::{Corner, Side};
 use polyhedron_on_edge::{EDGE_LIMIT, Edges};
 use refusals::Refusal;
@@ -29,17 +28,17 @@ pub struct Triangle {
 
 // Face k.
 #[tactic(auto, unfolding(crate::specs::EdgeFaceSums::triangle_of))]
-fn triangle_of(verts: &[f64], faces: &[u32], k: usize) -> Triangle
-    requires { Body verts.now faces.now × (k < face_count faces.now) }
-    ensures { result ≡ triangle_of verts.now faces.now k }
+fn triangle_of(mesh: Mesh, k: usize) -> Triangle
+    requires { k < face_count mesh.faces.now }
+    ensures { result ≡ triangle_of mesh.entry.verts.now mesh.entry.faces.now k }
 {
-    let a = corner(verts, faces, k, 0);
-    let b = corner(verts, faces, k, 1);
-    let c = corner(verts, faces, k, 2);
-    let i = faces[3 * k];
-    let j = faces[3 * k + 1];
-    let l = faces[3 * k + 2];
-    let normal = polyhedron_edge_terms::unit(mesh::surface::normal(verts, faces, k));
+    let a = mesh.corner(k, 0);
+    let b = mesh.corner(k, 1);
+    let c = mesh.corner(k, 2);
+    let i = mesh.faces[3 * k];
+    let j = mesh.faces[3 * k + 1];
+    let l = mesh.faces[3 * k + 2];
+    let normal = polyhedron_edge_terms::unit(mesh.normal(k));
     Triangle {
         a,
         b,
@@ -101,25 +100,24 @@ impl Running {
         self.add_side(n, t.ca, l2, c.r);
     }
 
-    // The n faces from first on. One function for all callers: compiled for each of them, `add_triangle` is slower.
-    pub fn add_triangles(&mut self, p: Vector, verts: &[f64], faces: &[u32], first: usize, n: usize)
-        requires { Body verts.now faces.now × (first + n ≤ face_count faces.now) }
-        ensures { Adds p verts.now faces.now first n self.old self.new }
+    // The faces of the range, by their numbers. One function for all callers: compiled for each of them, `add_triangle` is slower.
+    pub fn add_triangles(&mut self, p: Vector, range: FaceRange)
+        ensures { let r = range.entry in Adds p r.mesh.verts.now r.mesh.faces.now r.first r.n self.old self.new }
     {
-        for k in first..first + n {
-            self.add_triangle(p, triangle_of(verts, faces, k));
+        for k in range.first..range.first + range.n {
+            self.add_triangle(p, triangle_of(range.mesh, k));
         }
     }
 
     // The field at a station of number i, of which all faces are added.
-    pub fn near_field(&self, i: u32) -> Field
-        ensures { (p : Vector) (v : List Float) (f : List ℕ) → Carries (sums_of p v f) self.now → answer_of result ≡ edge_face_sums i p v f }
+    pub fn near_field(&self, i: u32) -> Result<Newtonian, Refusal>
+        ensures { (p : Vector) (v : List Float) (f : List ℕ) → Carries (sums_of p v f) self.now → result ≡ edge_face_sums i p v f }
     {
         if EDGE_LIMIT < self.edges.count {
-            return Field::Refused(Refusal::TooManyEdges(i));
+            return Err(Refusal::TooManyEdges(i));
         }
         let t = self.edges.add_infinite(self.field.hessian);
-        Field::At(Newtonian {
+        Ok(Newtonian {
             potential: self.field.potential,
             gradient: self.field.gradient,
             hessian: polyhedron_edge_terms::symmetric(t),

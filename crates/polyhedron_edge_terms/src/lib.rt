@@ -1,4 +1,5 @@
 // What one face and one edge of a polyhedron add to the field, by the edge and face sums of Werner & Scheeres (1997).
+// Arguments stay as the paper names them: a corner belongs to two sides of a face, so that no struct of a side and its corners could be kept.
 #![tactic(auto)]
 
 ghost use Rattle.std.specs.Prelude.{◌≡◌};

@@ -40,7 +40,8 @@ fn add_face(g: &Group, s: &SeenFaces, k: usize, f: Newtonian) -> Newtonian
     add_side(n, g, s, 16 + k, bc)
 }
 
-// The field f with the first `count` faces, in order.
+// The field f with the first `count` faces, in order. By the number: what belongs to a face stands in several arrays, that of its
+// sides at three places.
 fn add_faces(g: &Group, s: &SeenFaces, count: usize, f: Newtonian) -> Newtonian
     requires count_bound { count ≤ 8 }
     requires dyads { HoldsDyads g.now }

@@ -1,4 +1,5 @@
-// Eight faces side by side: corner or side j of the face in lane k stands at 8 j + k.
+// Eight faces side by side: corner or side j of the face in lane k stands at 8 j + k. A loop over lanes walks several arrays in step, by an
+// index: of one body over fixed arrays the compiler makes packed instructions, and a chain of zipped iterators would be no plainer.
 #![tactic(auto)]
 
 ghost use Rattle.std.specs.Prelude.{◌≡◌, ℕ, ◌+◌, ◌%◌, ◌<◌, slice_set};

@@ -1,14 +1,15 @@
 // The far fields of a block of eight stations, with one walk over the faces for all of them: a face's points are made once.
 #![tactic(auto)]
 
-ghost use Rattle.std.specs.Prelude.{◌≡◌, not, ℕ, ◌+◌, ◌≤◌, ◌<◌, length, count_by};
+ghost use Rattle.std.specs.Prelude.{◌≡◌, not, ℕ, ◌+◌, ◌<◌, length, count_by};
 ghost use Rattle.newtonian.specs.Fold.{Fold};
-ghost use Rattle.mesh.specs.Surface.{Body, face_count};
+ghost use Rattle.mesh.specs.Surface.{face_count};
 ghost use Rattle.polyhedron_neumaier.specs.Neumaier.{no_sums};
 ghost use Rattle.polyhedron_tetrahedra.specs.Tetrahedra.{add_tetrahedron};
 ghost use Rattle.polyhedron_far_lanes.specs.EightFields.{place_at};
 ghost use Rattle.polyhedron_far.specs.Far.{sums_at, FarSums, PointsAdded};
 
+use mesh::surface::{FaceRange, Mesh};
 use newtonian::Vector;
 use polyhedron_far_lanes::EightFields;
 use polyhedron_far_points::Points;
@@ -48,7 +49,7 @@ impl Block {
         for (i, own) in sums.iter_mut().enumerate() {
             if !self.near[i] {
                 let f = points.field(self.places[i]);
-                own.add(&newtonian::field_numbers(f));
+                own.add(&f.into());
             }
         }
     }
@@ -60,7 +61,7 @@ impl Block {
         let fields = EightFields::of(&self.places, points);
         for (k, own) in sums.iter_mut().enumerate() {
             if !self.near[k] {
-                own.add(&newtonian::field_numbers(fields.at(k)));
+                own.add(&fields.at(k).into());
             }
         }
     }
@@ -80,59 +81,43 @@ impl Block {
     fn add_far_face(
         &self,
         apex: Vector,
-        verts: &[f64],
-        faces: &[u32],
+        mesh: Mesh,
         k: usize,
         rule: &MappedRule,
         points: &mut Points,
         sums: &mut [Sums; 8],
     )
-        requires { Body verts.now faces.now × (k < face_count faces.now) }
-        ensures { FarSums self.now.near (λ (i : ℕ). add_tetrahedron (place_at self.now.places i) apex verts.now faces.now k) sums.old sums.new }
+        requires { k < face_count mesh.faces.now }
+        ensures { let m = mesh.entry in
+            FarSums self.now.near (λ (i : ℕ). add_tetrahedron (place_at self.now.places i) apex m.verts.now m.faces.now k) sums.old sums.new }
     {
-        let b = mesh::surface::corner(verts, faces, k, 0);
-        let c = mesh::surface::corner(verts, faces, k, 1);
-        let d = mesh::surface::corner(verts, faces, k, 2);
+        let b = mesh.corner(k, 0);
+        let c = mesh.corner(k, 1);
+        let d = mesh.corner(k, 2);
         let s = polyhedron_tetrahedra::over_face(apex, b, c, d);
         points.fill(apex, s, rule);
         self.add_points(points, sums);
     }
 
-    // The tetrahedra over the n faces from first on, added to the sums of each far station.
-    fn add_tetrahedra(
-        &self,
-        apex: Vector,
-        verts: &[f64],
-        faces: &[u32],
-        first: usize,
-        n: usize,
-        sums: &mut [Sums; 8],
-    )
-        requires { Body verts.now faces.now × (first + n ≤ face_count faces.now) }
-        ensures { FarSums self.now.near (λ (i : ℕ). Fold n (λ (k : ℕ). add_tetrahedron (place_at self.now.places i) apex verts.now faces.now (first + k))) sums.old sums.new }
+    // The tetrahedra over the faces of the range, by their numbers, added to the sums of each far station.
+    fn add_tetrahedra(&self, apex: Vector, range: FaceRange, sums: &mut [Sums; 8])
+        ensures { let r = range.entry in
+            FarSums self.now.near (λ (i : ℕ). Fold r.n (λ (k : ℕ). add_tetrahedron (place_at self.now.places i) apex r.mesh.verts.now r.mesh.faces.now (r.first + k))) sums.old sums.new }
     {
         let rule = MappedRule::new();
         let mut points = Points::new();
-        for k in 0..n {
-            self.add_far_face(apex, verts, faces, first + k, &rule, &mut points, sums);
+        for k in 0..range.n {
+            self.add_far_face(apex, range.mesh, range.first + k, &rule, &mut points, sums);
         }
     }
 
     // The same; where no station of the block is far, no points are made.
-    pub fn add_far_faces(
-        &self,
-        apex: Vector,
-        verts: &[f64],
-        faces: &[u32],
-        first: usize,
-        n: usize,
-        sums: &mut [Sums; 8],
-    )
-        requires { Body verts.now faces.now × (first + n ≤ face_count faces.now) }
-        ensures { FarSums self.now.near (λ (i : ℕ). Fold n (λ (k : ℕ). add_tetrahedron (place_at self.now.places i) apex verts.now faces.now (first + k))) sums.old sums.new }
+    pub fn add_far_faces(&self, apex: Vector, range: FaceRange, sums: &mut [Sums; 8])
+        ensures { let r = range.entry in
+            FarSums self.now.near (λ (i : ℕ). Fold r.n (λ (k : ℕ). add_tetrahedron (place_at self.now.places i) apex r.mesh.verts.now r.mesh.faces.now (r.first + k))) sums.old sums.new }
     {
         if self.far_count() > 0 {
-            self.add_tetrahedra(apex, verts, faces, first, n, sums);
+            self.add_tetrahedra(apex, range, sums);
         }
     }
 }

@@ -119,6 +119,7 @@ impl EightFields {
     }
 
     // Puts v in the place of station k's field.
+    #[tactic(auto, unfolding(crate::specs::EightFields::put, newtonian::specs::Fold::Fold, newtonian::specs::Vectors::field_numbers))]
     fn put(&mut self, k: usize, v: Newtonian)
         requires { k < 8 }
         ensures { self.new.numbers ≡ put k v self.old.numbers }
@@ -138,7 +139,7 @@ impl EightFields {
         self.numbers[96 + k] = v.hessian.z.z;
     }
 
-    // The point u of weight w, added to each of the fields; d holds its distances from o on.
+    // The point u of weight w, added to each of the fields; d holds its distances from o on. By the index, since several arrays are read in step.
     fn add_point(&mut self, w: f64, u: Vector, stations: &Stations, o: usize, d: &Distances)
         requires o_bound { o + 8 ≤ 24 }
         requires squares { Squares stations.now.x stations.now.y stations.now.z u o d.now.squares × Lanes 24 (λ (i : ℕ). Root (lane d.now.squares i)) d.now.roots }
@@ -176,7 +177,7 @@ impl EightFields {
         self.add_point(points.w[n + 2], c, stations, 16, d);
     }
 
-    // The points' fields at the places of eight stations.
+    // The points' fields at the places of eight stations. By the number of the first of three points, which stand in four arrays.
     pub fn of(places: &[Vector; 8], points: &Points) -> Self
         ensures { Fields (λ (k : ℕ). field_of (place_at places.now k) points.now) result.numbers }
     {

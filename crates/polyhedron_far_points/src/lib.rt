@@ -7,7 +7,7 @@ ghost use Rattle.newtonian.specs.Fold.{Fold};
 ghost use Rattle.newtonian.specs.Vectors.{difference};
 ghost use Rattle.lanes.specs.Lanes.{lane, Lanes};
 ghost use Rattle.polyhedron_far_points.specs.Tetrahedral.{point_count, point_at, point_square, point_step};
-ghost use Rattle.polyhedron_far_points.specs.PointsOf.{FirstOf, field_of};
+ghost use Rattle.polyhedron_far_points.specs.PointsOf.{FirstOf, field_of, zero_points};
 
 use newtonian::{Newtonian, Vector};
 use polyhedron_tetrahedra::{MappedRule, POINTS, Tetrahedron};
@@ -24,9 +24,12 @@ pub struct Points {
     pub w: [f64; POINT_COUNT],
 }
 
+// n is the number of a point, and no length of q or r.
 impl Points {
     // Room for a tetrahedron's points.
-    pub fn new() -> Self {
+    pub fn new() -> Self
+        ensures { result ≡ zero_points }
+    {
         Points {
             x: [0.0; POINT_COUNT],
             y: [0.0; POINT_COUNT],
@@ -35,7 +38,7 @@ impl Points {
         }
     }
 
-    // Line m of the tetrahedron s: six points.
+    // Line m of the tetrahedron s: six points. By the index, since they go into four arrays in step.
     fn fill_line(&mut self, a: Vector, s: Tetrahedron, rule: &MappedRule, m: usize)
         requires { (m < 36) × FirstOf a s (6 * m) self.old }
         ensures { FirstOf a s (6 * m + 6) self.new }
@@ -55,7 +58,7 @@ impl Points {
         }
     }
 
-    // Makes them the points of the tetrahedron s with the apex a.
+    // Makes them the points of the tetrahedron s with the apex a. By the line's number, from which its nodes are found.
     pub fn fill(&mut self, a: Vector, s: Tetrahedron, rule: &MappedRule)
         ensures { FirstOf a s point_count self.new }
     {
@@ -95,7 +98,7 @@ impl Points {
         }
     }
 
-    // The sums f with the 24 points from n on; q and r hold their squared distances and distances.
+    // The sums f with the 24 points from n on; q and r hold their squared distances and distances. By the index, since six arrays are read in step.
     fn add_points(
         &self,
         p: Vector,
@@ -116,7 +119,7 @@ impl Points {
         sums
     }
 
-    // Their field at p, by runs of 24 points, whose roots are taken side by side.
+    // Their field at p, by runs of 24 points, whose roots are taken side by side. By the run's number, since its points stand in four arrays.
     pub fn field(&self, p: Vector) -> Newtonian
         ensures { result ≡ field_of p self.now }
     {

@@ -1,171 +1,128 @@
 // The fields of a checked mesh at up to eight stations. The faces are walked once for all of them, by groups of eight faces, for near and far stations together.
 #![tactic(auto)]
 
-ghost use Rattle.std.specs.Prelude.{◌≡◌, true, false, List, ℕ, ◌+◌, ◌/◌, ◌≤◌, ◌<◌, Float, length, get_or};
-ghost use Rattle.newtonian.specs.Field.{answer_of};
+pub mod stations;
+
+ghost use Rattle.std.specs.Prelude.{◌≡◌, true, false, List, ℕ, Float, length};
 ghost use Rattle.newtonian.specs.declared.Vector.{Vector};
-ghost use Rattle.mesh_orders.specs.Edges.{2³²};
-ghost use Rattle.mesh.specs.Surface.{Body, vertex};
 ghost use Rattle.polyhedron_edge_face_sums.specs.EdgeFaceSums.{sums_of};
 ghost use Rattle.polyhedron_edge_face_sums.specs.Carried.{Carries};
-ghost use Rattle.polyhedron_blocks.specs.Blocks.{block_size, no_vector};
+ghost use Rattle.polyhedron_blocks.specs.Blocks.{block_size};
 ghost use Rattle.polyhedron.specs.Polyhedron.{polyhedron_from};
 ghost use Rattle.polyhedron_fields.specs.BlockFields.{BlockFields};
 ghost use Rattle.polyhedron_fields.specs.Walked.{is_near, far_sums, Walked};
 
-use newtonian::{Field, Vector};
+use crate::stations::StationRange;
+use mesh::surface::{FaceRange, Mesh};
+use newtonian::Newtonian;
 use polyhedron_blocks::STATIONS;
+use polyhedron_centroid::Center;
 use polyhedron_edge_face_sums::Running;
 use polyhedron_far::Block;
 use polyhedron_group::FEWEST;
 use polyhedron_neumaier::Sums;
 use refusals::Refusal;
 
-// ---- before the walk over the faces
-
-// The n stations from the one with the number first on.
-pub fn places_of(stations: &[f64], first: usize, n: usize) -> [Vector; STATIONS]
-    requires { (n ≤ block_size) × (first + n ≤ length stations.now / 3) × (first + n ≤ 2³²) }
-    ensures { (j : ℕ) → j < n → get_or result j no_vector ≡ vertex stations.now (first + j) }
-{
-    let mut out = [Vector {
-        x: 0.0,
-        y: 0.0,
-        z: 0.0,
-    }; STATIONS];
-    for j in 0..n {
-        // A station is three coordinates, as a vertex is.
-        out[j] = mesh::surface::vertex(stations, (first + j) as u32);
-    }
-    out
-}
-
-// Which of the first n stations of a block are near; rest for those past them.
-fn near_of(places: &[Vector; STATIONS], n: usize, rest: bool, c: Vector, r: f64) -> [bool; STATIONS]
-    requires { n ≤ block_size }
-    ensures { (j : ℕ) → j < n → get_or result j false ≡ is_near (get_or places.now j no_vector) c r }
-{
-    let mut out = [rest; STATIONS];
-    for j in 0..n {
-        out[j] = !polyhedron::is_far(places[j], c, r);
-    }
-    out
-}
-
-// ---- after it
-
-// The field at the station of number i, of which all faces are added: run is that of a near station, sums are those of a far one.
-fn station_field(i: u32, near: bool, run: &Running, sums: &Sums) -> Field
+// The field at the station of number i, of which all faces are added: run is that of a near station, sums are those of a far one. `near` is what the block keeps of the
+// station.
+fn station_field(i: u32, near: bool, run: &Running, sums: &Sums) -> Result<Newtonian, Refusal>
     ensures { (p c : Vector) (r : Float) (v : List Float) (f : List ℕ) → near ≡ is_near p c r →
-        (near ≡ true → Carries (sums_of p v f) run.now) → (near ≡ false → sums.now.pairs ≡ far_sums p c v f) → answer_of result ≡ polyhedron_from i p c r v f }
+        (near ≡ true → Carries (sums_of p v f) run.now) → (near ≡ false → sums.now.pairs ≡ far_sums p c v f) → result ≡ polyhedron_from i p c r v f }
 {
     if near {
         return run.near_field(i);
     }
-    Field::At(sums.total())
+    Ok(sums.total())
 }
 
 // A list of fields before any is known.
-pub fn no_fields() -> [Field; STATIONS]
+pub fn no_fields() -> [Result<Newtonian, Refusal>; STATIONS]
     ensures { length result ≡ block_size }
 {
-    let none = Field::Refused(Refusal::TooManyEdges(0));
+    let none = Err(Refusal::TooManyEdges(0));
     [none; STATIONS]
 }
 
-// The fields at the first n stations of a block after the walk, of which the first has the number first.
+// The fields at the stations of a block after the walk.
 fn answers(
-    first: usize,
-    n: usize,
+    stations: &StationRange,
     block: &Block,
     runs: &[Running; STATIONS],
     sums: &[Sums; STATIONS],
-) -> [Field; STATIONS]
-    requires { (n ≤ block_size) × (first + n ≤ 2³²) }
-    ensures { (c : Vector) (r : Float) (v : List Float) (f : List ℕ) →
-        Walked n c r v f block.now runs.now sums.now → BlockFields first n block.now.places c r v f result }
+) -> [Result<Newtonian, Refusal>; STATIONS]
+    ensures { let s = stations.now in (c : Vector) (r : Float) (v : List Float) (f : List ℕ) →
+        Walked s.n c r v f block.now runs.now sums.now → BlockFields s.first s.n block.now.places c r v f result }
 {
     let mut out = no_fields();
-    for j in 0..n {
-        out[j] = station_field((first + j) as u32, block.near[j], &runs[j], &sums[j]);
+    for (j, answer) in out[..stations.n].iter_mut().enumerate() {
+        *answer = station_field(stations.number(j), block.near[j], &runs[j], &sums[j]);
     }
     out
 }
 
 // ---- the fields
 
-// By one walk over the faces for all stations.
+// By one walk over the faces for all stations, in groups that go by their first face's number.
 fn walked(
-    first: usize,
-    n: usize,
-    places: [Vector; STATIONS],
-    c: Vector,
-    r: f64,
-    verts: &[f64],
-    faces: &[u32],
-) -> [Field; STATIONS]
-    requires { Body verts.now faces.now × (n ≤ block_size) × (first + n ≤ 2³²) }
-    ensures { BlockFields first n places c r verts.now faces.now result }
+    stations: &StationRange,
+    center: Center,
+    mesh: Mesh,
+) -> [Result<Newtonian, Refusal>; STATIONS]
+    ensures { let s = stations.now in BlockFields s.first s.n s.places center.centroid center.radius mesh.entry.verts.now mesh.entry.faces.now result }
 {
     let block = Block {
-        places,
-        near: near_of(&places, n, false, c, r),
+        places: stations.places,
+        near: stations.near(center, false),
     };
     // Past the last station of a short block there is none, neither near nor far.
     let not_far = Block {
-        places,
-        near: near_of(&places, n, true, c, r),
+        places: stations.places,
+        near: stations.near(center, true),
     };
     let mut runs = polyhedron_blocks::no_runs();
     let mut sums = polyhedron_far::no_far_sums();
-    let total = faces.len() / 3;
+    let total = mesh.face_count();
     for k in (0..total).step_by(8) {
         let m = (total - k).min(8);
-        polyhedron_walk::add_near_faces(&mut runs, &block, verts, faces, k, m);
-        not_far.add_far_faces(c, verts, faces, k, m, &mut sums);
+        let range = FaceRange {
+            mesh,
+            first: k,
+            n: m,
+        };
+        polyhedron_walk::add_near_faces(&mut runs, &block, range);
+        not_far.add_far_faces(center.centroid, range, &mut sums);
     }
-    answers(first, n, &block, &runs, &sums)
+    answers(stations, &block, &runs, &sums)
 }
 
 // Station by station.
 fn one_by_one(
-    first: usize,
-    n: usize,
-    places: [Vector; STATIONS],
-    c: Vector,
-    r: f64,
-    verts: &[f64],
-    faces: &[u32],
-) -> [Field; STATIONS]
-    requires { Body verts.now faces.now × (n ≤ block_size) × (first + n ≤ 2³²) }
-    ensures { BlockFields first n places c r verts.now faces.now result }
+    stations: &StationRange,
+    center: Center,
+    mesh: Mesh,
+) -> [Result<Newtonian, Refusal>; STATIONS]
+    ensures { let s = stations.now in BlockFields s.first s.n s.places center.centroid center.radius mesh.entry.verts.now mesh.entry.faces.now result }
 {
     let mut out = no_fields();
-    for j in 0..n {
-        out[j] = polyhedron::polyhedron_at((first + j) as u32, places[j], c, r, verts, faces);
+    for (j, answer) in out[..stations.n].iter_mut().enumerate() {
+        *answer = polyhedron::polyhedron_at(stations.number(j), stations.places[j], center, mesh);
     }
     out
 }
 
-// The fields at n stations, of which the first has the number first, of a mesh with the centroid c and the radius r. What the walk clears for eight stations would
-// take longer than the field of one, or of a body with few faces.
+// The fields of a mesh at a block of stations. What the walk clears for eight stations would take longer than the field of one, or of a body with few faces.
 pub fn fields_of(
-    first: usize,
-    n: usize,
-    places: [Vector; STATIONS],
-    c: Vector,
-    r: f64,
-    verts: &[f64],
-    faces: &[u32],
-) -> [Field; STATIONS]
-    requires { Body verts.now faces.now × (n ≤ block_size) × (first + n ≤ 2³²) }
-    ensures { BlockFields first n places c r verts.now faces.now result }
+    stations: &StationRange,
+    center: Center,
+    mesh: Mesh,
+) -> [Result<Newtonian, Refusal>; STATIONS]
+    ensures { let s = stations.now in BlockFields s.first s.n s.places center.centroid center.radius mesh.entry.verts.now mesh.entry.faces.now result }
 {
-    if n < 2 {
-        return one_by_one(first, n, places, c, r, verts, faces);
+    if stations.n < 2 {
+        return one_by_one(stations, center, mesh);
     }
-    if faces.len() < 3 * FEWEST {
-        return one_by_one(first, n, places, c, r, verts, faces);
+    if mesh.faces.len() < 3 * FEWEST {
+        return one_by_one(stations, center, mesh);
     }
-    walked(first, n, places, c, r, verts, faces)
+    walked(stations, center, mesh)
 }

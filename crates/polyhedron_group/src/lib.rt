@@ -1,9 +1,10 @@
-// Eight faces of a mesh side by side, from a face on: corner or side j of the face in lane k stands at 8 j + k.
+// Eight faces of a mesh side by side, from a face on: corner or side j of the face in lane k stands at 8 j + k. The loops count that place: a vector's three numbers
+// stand at it in three arrays, and the lane of the face follows from it.
 #![tactic(auto)]
 
-ghost use Rattle.std.specs.Prelude.{◌≡◌, ℕ, ◌+◌, ◌/◌, ◌%◌, ◌≤◌, ◌<◌, min};
+ghost use Rattle.std.specs.Prelude.{◌≡◌, ℕ, ◌/◌, ◌%◌, ◌≤◌, ◌<◌};
 ghost use Rattle.mesh_orders.specs.Edges.{max_faces};
-ghost use Rattle.mesh.specs.Surface.{Body, corner, face_count};
+ghost use Rattle.mesh.specs.Surface.{corner, face_count};
 ghost use Rattle.lanes.specs.Lanes.{Lanes};
 ghost use Rattle.polyhedron_faces.specs.Faces.{matrix_at, face_dyad, side_dyad};
 ghost use Rattle.polyhedron_faces.specs.Parts.{square};
@@ -11,6 +12,7 @@ ghost use Rattle.polyhedron_faces.specs.Held.{Holds};
 ghost use Rattle.polyhedron_group.specs.Group.{face_in, fewest, raw_normal};
 ghost use Rattle.polyhedron_group.specs.Held.{HoldsGroup};
 
+use mesh::surface::{FaceRange, Mesh};
 use newtonian::{Hessian, cross, difference, dot};
 use polyhedron_edge_terms::dyad;
 use polyhedron_faces::{Group, Vectors};
@@ -25,14 +27,15 @@ fn face_in(first: usize, n: usize, k: usize) -> usize
 }
 
 // The corners of the faces.
-fn corners(verts: &[f64], faces: &[u32], first: usize, c: &mut Vectors<24>)
-    requires { Body verts.now faces.now × (first < face_count faces.now) }
-    ensures { Holds 24 (λ (i : ℕ). corner verts.now faces.now (face_in first (face_count faces.now) (i % 8)) (i / 8)) c.new }
+fn corners(mesh: Mesh, first: usize, c: &mut Vectors<24>)
+    requires { first < face_count mesh.faces.now }
+    ensures { let f = mesh.entry.faces.now in
+        Holds 24 (λ (i : ℕ). corner mesh.entry.verts.now f (face_in first (face_count f) (i % 8)) (i / 8)) c.new }
 {
-    let n = faces.len() / 3;
+    let n = mesh.face_count();
     for i in 0..24usize {
         let f = face_in(first, n, i % 8);
-        let v = mesh::surface::corner(verts, faces, f, i / 8);
+        let v = mesh.corner(f, i / 8);
         c.set(i, v);
     }
 }
@@ -74,27 +77,19 @@ fn side_dyads(normals: &Vectors<8>, side_normals: &Vectors<24>, d: &mut [Hessian
     }
 }
 
-// The smaller of two counts.
-pub fn fewer(a: usize, b: usize) -> usize
-    ensures { result ≡ min a b }
-{
-    a.min(b)
-}
-
 // A group of fewer faces goes face by face: it would cost as much as a whole one.
 pub const FEWEST: usize = 5;
 
-// Eight faces from first on, of which n are to be added; past the last face that one again. Where n is too few nothing is made.
-pub fn group(verts: &[f64], faces: &[u32], first: usize, n: usize, g: &mut Group)
-    requires { Body verts.now faces.now × (first + n ≤ face_count faces.now) }
-    ensures { fewest ≤ n → HoldsGroup verts.now faces.now first g.new }
+// Eight faces from the range's first on, of which its own are to be added; past the last face that one again. Where they are too few nothing is made.
+pub fn group(range: FaceRange, g: &mut Group)
+    ensures { let r = range.entry in fewest ≤ r.n → HoldsGroup r.mesh.verts.now r.mesh.faces.now r.first g.new }
 {
-    if n < FEWEST {
+    if range.n < FEWEST {
         return;
     }
     let mut q = [0.0; 8];
     let mut l = [0.0; 8];
-    corners(verts, faces, first, &mut g.corners);
+    corners(range.mesh, range.first, &mut g.corners);
     raw_normals(&g.corners, &mut g.normals, &mut q);
     lanes::roots(&q, &mut l);
     polyhedron_faces::units(&l, &mut g.normals);

@@ -1,5 +1,6 @@
 // The logarithms of the sides of eight faces side by side, as a station sees them. Corner j of face k, and the side from there
-// to the face's next corner, stand at 8 j + k.
+// to the face's next corner, stand at 8 j + k. The loop over lanes walks several arrays in step, by an index: of one body over
+// fixed arrays the compiler makes packed instructions.
 #![tactic(auto)]
 
 ghost use Rattle.std.specs.Prelude.{◌≡◌, true, ℕ, ◌+◌, ◌%◌, ◌<◌};

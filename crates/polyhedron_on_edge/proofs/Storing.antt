@@ -5,7 +5,8 @@ use Rattle.std.specs.Float.{Float, nan}
 use Rattle.lists.proofs.Numbers.{below?}
 use borrow.Rule.Slice.PartMut.{put_mid}
 use Rattle.newtonian.specs.declared.Hessian.{Hessian}
-use Rattle.polyhedron_on_edge.specs.Block.{dyad_in, hessian_numbers}
+use Rattle.newtonian.specs.Numbers.{hessian_numbers}
+use Rattle.polyhedron_on_edge.specs.Block.{dyad_in}
 
 -- a part of w numbers from a on
 module _ (a w : ℕ) (xs ys : List Float) (l : a + w ≤ length xs) (s : length ys ≡ w) where

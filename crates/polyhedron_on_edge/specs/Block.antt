@@ -1,12 +1,8 @@
 -- No part of the field's definition: nine numbers to an edge, as the code keeps the dyads of the edges that give a logarithm that is not finite. The contracts of the inner functions
 -- speak of it. Definitions only.
-use Rattle.std.specs.Prelude.{List, [], ◌∷◌, ℕ, ◌+◌, ◌*◌, get_or, Float}
+use Rattle.std.specs.Prelude.{List, ℕ, ◌+◌, ◌*◌, get_or, Float}
 use Rattle.std.specs.Float.{nan}
 use Rattle.newtonian.specs.declared.Hessian.{Hessian}
-
--- a matrix row by row
-unfoldable pub hessian_numbers : Hessian → List Float
-hessian_numbers d = d.x.x ∷ d.x.y ∷ d.x.z ∷ d.y.x ∷ d.y.y ∷ d.y.z ∷ d.z.x ∷ d.z.y ∷ d.z.z ∷ []
 
 -- matrix i of a block
 unfoldable pub dyad_in : List Float → ℕ → Hessian

@@ -3,7 +3,7 @@
 
 ghost use Rattle.std.specs.Prelude.{◌≡◌, [], List, ℕ, suc, ◌≢◌, ◌<◌, ◌≤◌, MatchOption, slice_index};
 ghost use Rattle.polyhedron_on_edge.specs.OnEdge.{edge_limit, edge_key, Edge, add_matrices, add_dyad, infinite_entry, infinite_row, infinite_entries, add_infinite};
-ghost use Rattle.polyhedron_on_edge.specs.Block.{hessian_numbers, dyad_in};
+ghost use Rattle.polyhedron_on_edge.specs.Block.{dyad_in};
 
 use mesh_orders::edges::number;
 use newtonian::{Hessian, Vector, add_vectors};
@@ -31,15 +31,6 @@ fn add_matrices(a: Hessian, b: Hessian) -> Hessian
         y: add_vectors(a.y, b.y),
         z: add_vectors(a.z, b.z),
     }
-}
-
-#[tactic(auto, unfolding(crate::specs::Block::hessian_numbers))]
-fn hessian_numbers(d: Hessian) -> [f64; 9]
-    ensures { result ≡ hessian_numbers d }
-{
-    [
-        d.x.x, d.x.y, d.x.z, d.y.x, d.y.y, d.y.z, d.z.x, d.z.y, d.z.z,
-    ]
 }
 
 // Between faces in one plane an edge's sum vanishes, and so does the term.
@@ -132,7 +123,8 @@ impl Edges {
         ensures others { (j : ℕ) → j ≢ i → dyad_in self.new.dyads j ≡ dyad_in self.old.dyads j }
     {
         let n = i * 9;
-        self.dyads[n..n + 9].copy_from_slice(&hessian_numbers(d));
+        let numbers: [f64; 9] = d.into();
+        self.dyads[n..n + 9].copy_from_slice(&numbers);
     }
 
     // The first place that holds key.
@@ -162,7 +154,7 @@ impl Edges {
         self.count += 1;
     }
 
-    // The Hessian with the entries that the edges make infinite.
+    // The Hessian with the entries that the edges make infinite. By the number, since an edge's nine numbers are taken out by it.
     pub fn add_infinite(&self, t: Hessian) -> Hessian
         requires { self.now.count ≤ edge_limit }
         ensures { (es : List Edge) → HoldsEdges es self.now → result ≡ add_infinite es t }

@@ -1,5 +1,6 @@
 // What a station sees of eight faces side by side: the offsets of the corners, the logarithms of the sides and the solid
-// angles. Corner j of face k, and the side from there to the face's next corner, stand at 8 j + k.
+// angles. Corner j of face k, and the side from there to the face's next corner, stand at 8 j + k. A loop over lanes walks
+// several arrays in step, by an index: of one body over fixed arrays the compiler makes packed instructions.
 #![tactic(auto)]
 
 ghost use Rattle.std.specs.Prelude.{◌≡◌, true, ℕ};

@@ -1,4 +1,4 @@
--- The elements of the mapped rule: from `gauss_legendre`'s answer, and by their index. Assumes nothing.
+-- The elements of the mapped rule: from the rule of six points, and by their index. Assumes nothing.
 use mathlib.Core.Path.{◌≡◌, refl, sym, ap, ◌∙◌}
 use Prim.Native.Nat.{ℕ, zero, suc, ◌+◌, ◌<◌}
 use mathlib.Core.List.{List, [], ◌∷◌}
@@ -10,15 +10,15 @@ use Rattle.std.proofs.lemmas.List.{ext_get_or}
 use lib.Ieee.{Float, nan}
 use Rattle.doubles.specs.Rounded.{◌⊕◌, ◌⊗◌}
 use Rattle.doubles.specs.Constants.{0·5, 1·0}
-use Rattle.legendre.specs.GaussLegendre.{gauss_legendre}
+use Rattle.legendre.specs.GaussLegendre.{rule}
 use Rattle.legendre.specs.RuleEntries.{node_at, weight-at}
 use Rattle.polyhedron_tetrahedra.specs.Mapped.{points, mapped_node, mapped_weight, mapped_nodes, mapped_weights}
 
-pub map-node : (i : ℕ) → i < points → 0·5 ⊗ (get_or (gauss_legendre points).nodes i nan ⊕ 1·0) ≡ mapped_node i
+pub map-node : (i : ℕ) → i < points → 0·5 ⊗ (get_or (rule points).nodes i nan ⊕ 1·0) ≡ mapped_node i
 unfolding mapped_node
 map-node i h = ap (λ (x : Float). 0·5 ⊗ (x ⊕ 1·0)) (node_at points i nan (lit≤ tt) h)
 
-pub map-weight : (i : ℕ) → i < points → 0·5 ⊗ get_or (gauss_legendre points).weights i nan ≡ mapped_weight i
+pub map-weight : (i : ℕ) → i < points → 0·5 ⊗ get_or (rule points).weights i nan ≡ mapped_weight i
 unfolding mapped_weight
 map-weight i h = ap (λ (x : Float). 0·5 ⊗ x) (weight-at points i nan (lit≤ tt) h)
 

@@ -16,8 +16,9 @@ pub struct MappedRule {
 }
 
 impl MappedRule {
+    // By the index, which is the place of a point in four arrays.
     pub fn new() -> Self {
-        let rule = legendre::gauss_legendre(POINTS as u32);
+        let rule = legendre::Rule::of_order(POINTS as u32);
         let mut nodes = [0.0; POINTS];
         let mut weights = [0.0; POINTS];
         for i in 0..POINTS {

@@ -19,8 +19,8 @@ fn print_row(rt: &impl Print, row: &[u8]) -> io::Result<()> {
 }
 
 fn print_rows(rt: &impl Print, sheet: &[u8]) -> io::Result<()> {
-    for i in 0..sheet_handle::row_count(sheet) {
-        print_row(rt, sheet_handle::nth_row(sheet, i))?;
+    for row in sheet_handle::new(sheet) {
+        print_row(rt, row)?;
     }
     Ok(())
 }

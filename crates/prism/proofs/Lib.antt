@@ -1,2 +1,2 @@
--- For the proofs here: the ways out of the recursion.
-mod WaysOut
+-- For the proofs here: one step of the recursion.
+mod Step

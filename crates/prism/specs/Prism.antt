@@ -5,12 +5,14 @@ use Rattle.std.specs.Float.Ieee.{le}
 use Rattle.doubles.specs.Rounded.{◌⊖◌, ◌⊗◌}
 use Rattle.doubles.specs.Constants.{10⁻⁶}
 use Rattle.refusals.specs.Causes.{or_else, unless}
-use Rattle.refusals.specs.Answer.{Answer, value, refused, or_answer}
-use Rattle.refusals.specs.declared.Cause.{Cause}
+use Rattle.std.specs.Prelude.{Ok, Err}
+use Rattle.refusals.specs.Answer.{Answer, or_answer}
+use Rattle.refusals.specs.Causes.{Cause}
 use Rattle.refusals.specs.declared.Refusal.TheVariants.{OutOfLimits, TooThin, TooDeep}
 use Rattle.newtonian.specs.Vectors.{add_fields, vector_within_limits}
 use Rattle.newtonian.specs.declared.Vector.{Vector}
 use Rattle.newtonian.specs.declared.Newtonian.{Newtonian}
+use Rattle.prism_corner_sums.specs.declared.Bounds.{Bounds}
 use Rattle.prism_pieces.specs.declared.AxisRule.{AxisRule}
 use Rattle.prism_pieces.specs.declared.AxisRule.TheVariants.{LastOfEquals}
 use Rattle.prism_pieces.specs.declared.Piece.{Piece}
@@ -21,20 +23,20 @@ use Rattle.prism_pieces.specs.Choice.{piece_of}
 
 -- the sum of the lower and the upper half's fields, or the first refusal among them
 unfoldable pub join : Answer Newtonian → Answer Newtonian → Answer Newtonian
-join (refused r) b = refused r
-join (value f) (refused r) = refused r
-join (value f) (value g) = value (add_fields f g)
+join (Err r) b = Err r
+join (Ok f) (Err r) = Err r
+join (Ok f) (Ok g) = Ok (add_fields f g)
 
--- a piece's field, or what becomes of its halves: the lower one, which ends at lowerMax, and the upper one, which begins at upperMin
-abbrev pub field_or : Piece → (Vector → Vector → Answer Newtonian) → Answer Newtonian
-field_or (Whole f) halves = value f
-field_or (Halves lowerMax upperMin) halves = halves lowerMax upperMin
+-- a piece's field, or what becomes of its lower and its upper half
+abbrev pub field_or : Piece → (Bounds → Bounds → Answer Newtonian) → Answer Newtonian
+field_or (Whole f) halves = Ok f
+field_or (Halves lower upper) halves = halves lower upper
 
 -- The field of the prism where at most n bisections are left. One more is refused by 10, which names the station by its number i.
 unfoldable pub pieces : AxisRule → ℕ → ℕ → Vector → Vector → Vector → Answer Newtonian
-pieces rule i zero p lo hi = field_or (piece_of rule p lo hi) (λ lowerMax upperMin. refused (TooDeep i))
+pieces rule i zero p lo hi = field_or (piece_of rule p lo hi) (λ lower upper. Err (TooDeep i))
 pieces rule i (suc n) p lo hi =
-    field_or (piece_of rule p lo hi) (λ lowerMax upperMin. join (pieces rule i n p lo lowerMax) (pieces rule i n p upperMin hi))
+    field_or (piece_of rule p lo hi) (λ lower upper. join (pieces rule i n p lower.lo lower.hi) (pieces rule i n p upper.lo upper.hi))
 
 -- document 01: the depth of the bisection
 abbrev pub max_bisections : ℕ

@@ -12,12 +12,14 @@ ghost use Rattle.prism_corner_lanes.specs.CornerLanes.{offset, axes, turned, thr
 
 use lanes::pick;
 use newtonian::{Newtonian, Vector};
-use prism_corner_sums::{PrismCorner, coordinate};
+use prism_corner_sums::{Bounds, PrismCorner, coordinate};
 
 // The lower or the upper corner less the station.
-fn offset(upper: bool, p: Vector, lo: Vector, hi: Vector) -> Vector
-    ensures { result ≡ offset upper p lo hi }
+#[tactic(auto, unfolding(crate::specs::CornerLanes::offset))]
+fn offset(upper: bool, p: Vector, bounds: Bounds) -> Vector
+    ensures { result ≡ offset upper p bounds.lo bounds.hi }
 {
+    let Bounds { lo, hi } = bounds;
     Vector {
         x: coordinate(upper, p.x, lo.x, hi.x),
         y: coordinate(upper, p.y, lo.y, hi.y),
@@ -25,16 +27,17 @@ fn offset(upper: bool, p: Vector, lo: Vector, hi: Vector) -> Vector
     }
 }
 
-// Whether the station lies on a line that holds an edge: there two axes have a corner at zero, and the corners one by one are
-// quicker. Nothing is promised: a wrong answer would cost time only.
-fn on_edge_line(a: Vector, b: Vector) -> bool {
+// Whether the station, which the box is seen from, lies on a line that holds an edge: there two axes have a corner at zero, and the
+// corners one by one are quicker. Nothing is promised: a wrong answer would cost time only.
+fn on_edge_line(seen: Bounds) -> bool {
+    let Bounds { lo: a, hi: b } = seen;
     let x = (a.x == 0.0) | (b.x == 0.0);
     let y = (a.y == 0.0) | (b.y == 0.0);
     let z = (a.z == 0.0) | (b.z == 0.0);
     (x & y) | (y & z) | (z & x)
 }
 
-// The coordinates of the corners of the prism from a to b.
+// The coordinates of the corners of the prism from a to b, written out as the bits of the corners' numbers choose them.
 fn axes(a: Vector, b: Vector) -> [f64; 24]
     ensures { result ≡ axes a b }
 {
@@ -79,6 +82,7 @@ fn distances(x: &[f64; 24], y: &[f64; 24], z: &[f64; 24], d: &mut [f64; 8])
 }
 
 // What the logarithm of a corner is taken of.
+#[tactic(auto, unfolding(crate::specs::CornerLanes::argument))]
 fn argument(p: f64, hi: f64, x: f64, y: f64, z: f64, r: f64) -> f64
     ensures { result ≡ argument p hi x y z r }
 {
@@ -99,11 +103,11 @@ struct Corners {
 }
 
 impl Corners {
-    // Seen from p, of the prism whose upper corner is hi and whose corners less p are lower and upper.
-    fn new(p: Vector, hi: Vector, lower: Vector, upper: Vector) -> Corners
-        ensures { AreSeen p hi lower upper result }
+    // Of the prism whose upper corner is hi, and which is seen so from p.
+    fn new(p: Vector, hi: Vector, seen: Bounds) -> Corners
+        ensures { AreSeen p hi seen.lo seen.hi result }
     {
-        let x = axes(lower, upper);
+        let x = axes(seen.lo, seen.hi);
         let y = turned(x);
         let z = turned(y);
         let mut d = [0.0; 8];
@@ -182,7 +186,7 @@ fn third(w: &[f64; 24], k: usize) -> Vector
     }
 }
 
-// The sum over the eight corners, in order.
+// The sum over the eight corners, in order. By the corner's number, since its bits choose the sign.
 fn sum(x: &[f64; 24], l: &[f64; 24], a: &[f64; 24]) -> Newtonian
     ensures { result ≡ Fold 8 (add_lanes x.now l.now a.now) zero_field }
 {
@@ -198,21 +202,23 @@ fn sum(x: &[f64; 24], l: &[f64; 24], a: &[f64; 24]) -> Newtonian
     f
 }
 
-// The field of the prism from lo to hi at p. Where a logarithm is not ordinary the corners are taken one by one.
-pub fn corner_sums(p: Vector, lo: Vector, hi: Vector) -> Newtonian
-    ensures { result ≡ corner_sums p lo hi }
+// The field of the prism at p. Where a logarithm is not ordinary the corners are taken one by one.
+pub fn corner_sums(p: Vector, bounds: Bounds) -> Newtonian
+    ensures { result ≡ corner_sums p bounds.lo bounds.hi }
 {
-    let lower = offset(false, p, lo, hi);
-    let upper = offset(true, p, lo, hi);
-    if on_edge_line(lower, upper) {
-        return prism_corner_sums::corner_sums(p, lo, hi);
+    let seen = Bounds {
+        lo: offset(false, p, bounds),
+        hi: offset(true, p, bounds),
+    };
+    if on_edge_line(seen) {
+        return prism_corner_sums::corner_sums(p, bounds);
     }
-    let c = Corners::new(p, hi, lower, upper);
+    let c = Corners::new(p, bounds.hi, seen);
     let mut l = [0.0; 24];
     if c.logarithms(&mut l) {
         let mut a = [0.0; 24];
         c.angles(&mut a);
         return sum(&c.x, &l, &a);
     }
-    prism_corner_sums::corner_sums(p, lo, hi)
+    prism_corner_sums::corner_sums(p, bounds)
 }

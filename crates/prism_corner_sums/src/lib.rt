@@ -2,9 +2,26 @@
 #![tactic(auto)]
 
 ghost use Rattle.std.specs.Prelude.{◌≡◌};
+ghost use Rattle.newtonian.specs.Vectors.{difference};
 ghost use Rattle.prism_corner_sums.specs.CornerSums.{coordinate, corner_logarithm, corner_angle, corner_at, sign, zero_or_times, potential_term, gradient_term, add_corner_terms, corner_sums};
 
 use newtonian::{Hessian, Newtonian, Vector};
+
+// A box along the axes, by its least and its greatest corner.
+#[derive(Clone, Copy)]
+pub struct Bounds {
+    pub lo: Vector,
+    pub hi: Vector,
+}
+
+impl Bounds {
+    // How long the sides are along x, y and z.
+    pub fn sides(self) -> Vector
+        ensures { result ≡ difference self.hi self.lo }
+    {
+        newtonian::difference(self.hi, self.lo)
+    }
+}
 
 // A corner less the station, with the logarithm and the angle of each axis.
 #[derive(Clone, Copy)]
@@ -14,7 +31,8 @@ pub struct PrismCorner {
     pub angle: Vector,
 }
 
-// −0 at an upper face makes a station on the face take the limit from outside.
+// Of an upper or a lower face, as a corner's number says of each axis. −0 at an upper face makes a station on the face take the limit from outside.
+#[tactic(auto, unfolding(crate::specs::CornerSums::coordinate))]
 pub fn coordinate(upper: bool, p: f64, lo: f64, hi: f64) -> f64
     ensures { result ≡ coordinate upper p lo hi }
 {
@@ -27,6 +45,7 @@ pub fn coordinate(upper: bool, p: f64, lo: f64, hi: f64) -> f64
 }
 
 // ln(x + r) without cancellation.
+#[tactic(auto, unfolding(crate::specs::CornerSums::corner_logarithm))]
 fn corner_logarithm(p: f64, hi: f64, x: f64, y: f64, z: f64, r: f64) -> f64
     ensures { result ≡ corner_logarithm p hi x y z r }
 {
@@ -39,6 +58,7 @@ fn corner_logarithm(p: f64, hi: f64, x: f64, y: f64, z: f64, r: f64) -> f64
     carlson::ln((y * y + z * z) / (r - x))
 }
 
+#[tactic(auto, unfolding(crate::specs::CornerSums::corner_angle))]
 fn corner_angle(x: f64, y: f64, z: f64, r: f64) -> f64
     ensures { result ≡ corner_angle x y z r }
 {
@@ -51,9 +71,11 @@ fn corner_angle(x: f64, y: f64, z: f64, r: f64) -> f64
 }
 
 // The three axes by hand: each formula takes x, y and z in turn, which a loop over the axes would have to pick by number.
-fn corner_at(p: Vector, lo: Vector, hi: Vector, k: u32) -> PrismCorner
-    ensures { result ≡ corner_at p lo hi k }
+#[tactic(auto, unfolding(crate::specs::CornerSums::corner_at))]
+fn corner_at(p: Vector, bounds: Bounds, k: u32) -> PrismCorner
+    ensures { result ≡ corner_at p bounds.lo bounds.hi k }
 {
+    let Bounds { lo, hi } = bounds;
     let x = coordinate(k % 2 == 1, p.x, lo.x, hi.x);
     let y = coordinate(k / 2 % 2 == 1, p.y, lo.y, hi.y);
     let z = coordinate(k / 4 % 2 == 1, p.z, lo.z, hi.z);
@@ -73,6 +95,7 @@ fn corner_at(p: Vector, lo: Vector, hi: Vector, k: u32) -> PrismCorner
     }
 }
 
+#[tactic(auto, unfolding(crate::specs::CornerSums::sign))]
 pub fn sign(k: u32) -> f64
     ensures { result ≡ sign k }
 {
@@ -84,24 +107,28 @@ pub fn sign(k: u32) -> f64
 }
 
 // A zero coefficient times the infinite logarithm on an edge counts as zero.
+#[tactic(auto, unfolding(crate::specs::CornerSums::zero_or_times))]
 fn zero_or_times(k: f64, v: f64) -> f64
     ensures { result ≡ zero_or_times k v }
 {
     if k == 0.0 { 0.0 } else { k * v }
 }
 
+#[tactic(auto, unfolding(crate::specs::CornerSums::potential_term))]
 fn potential_term(x: f64, y: f64, z: f64, lx: f64, ax: f64) -> f64
     ensures { result ≡ potential_term x y z lx ax }
 {
     zero_or_times(y * z, lx) - zero_or_times(0.5 * x * x, ax)
 }
 
+#[tactic(auto, unfolding(crate::specs::CornerSums::gradient_term))]
 fn gradient_term(x: f64, y: f64, z: f64, ly: f64, lz: f64, ax: f64) -> f64
     ensures { result ≡ gradient_term x y z ly lz ax }
 {
     zero_or_times(y, lz) + zero_or_times(z, ly) - zero_or_times(x, ax)
 }
 
+#[tactic(auto, unfolding(crate::specs::CornerSums::add_corner_terms))]
 pub fn add_corner_terms(s: f64, c: PrismCorner, f: Newtonian) -> Newtonian
     ensures { result ≡ add_corner_terms s c f }
 {
@@ -141,13 +168,13 @@ pub fn add_corner_terms(s: f64, c: PrismCorner, f: Newtonian) -> Newtonian
     }
 }
 
-// The field of the prism from lo to hi at p.
-pub fn corner_sums(p: Vector, lo: Vector, hi: Vector) -> Newtonian
-    ensures { result ≡ corner_sums p lo hi }
+// The field of the prism at p. By the corner's number, since its bits choose the coordinates and the sign.
+pub fn corner_sums(p: Vector, bounds: Bounds) -> Newtonian
+    ensures { result ≡ corner_sums p bounds.lo bounds.hi }
 {
     let mut f = newtonian::zero_field();
     for k in 0..8u32 {
-        f = add_corner_terms(sign(k), corner_at(p, lo, hi, k), f);
+        f = add_corner_terms(sign(k), corner_at(p, bounds, k), f);
     }
     f
 }

@@ -1,2 +1,2 @@
--- The rule that `gauss_legendre` gives, for the proofs here.
+-- The rule of an order, for the proofs here.
 mod Given

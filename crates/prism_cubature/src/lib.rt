@@ -9,44 +9,41 @@ ghost use Rattle.prism_cubature.specs.Rules.{IsRule};
 
 use legendre::Rule;
 use newtonian::{Newtonian, Vector};
+use prism_corner_sums::Bounds;
 
-pub fn half_widths(lo: Vector, hi: Vector) -> Vector
-    ensures { result ≡ half_widths lo hi }
+#[tactic(auto, unfolding(crate::specs::Cubature::half_widths, newtonian::specs::Vectors::difference))]
+pub fn half_widths(bounds: Bounds) -> Vector
+    ensures { result ≡ half_widths bounds.lo bounds.hi }
 {
+    let sides = bounds.sides();
     Vector {
-        x: 0.5 * (hi.x - lo.x),
-        y: 0.5 * (hi.y - lo.y),
-        z: 0.5 * (hi.z - lo.z),
+        x: 0.5 * sides.x,
+        y: 0.5 * sides.y,
+        z: 0.5 * sides.z,
     }
 }
 
+#[tactic(auto, unfolding(crate::specs::Cubature::offset))]
 fn offset(p: f64, lo: f64, hi: f64, h: f64, u: f64) -> f64
     ensures { result ≡ offset p lo hi h u }
 {
     0.5 * (lo + hi) + h * u - p
 }
 
+#[tactic(auto, unfolding(crate::specs::Cubature::point_weight))]
 fn point_weight(w: f64, wz: f64, h: Vector) -> f64
     ensures { result ≡ point_weight w wz h }
 {
     w * wz * h.x * h.y * h.z
 }
 
-// The rule of an order; of the order 0, which is refused, it has no node.
-fn rule_of(order: u32) -> Rule
-    requires { order ≤ max_order }
-    ensures { (result.count ≡ order) × IsRule result }
-{
-    legendre::gauss_legendre(order)
-}
-
 // The three sums are alike in their loops alone: one generic loop over a rule would have to say in its contract what its closure adds, which a closure within a closure cannot.
+// They go by the index, since a rule is two arrays in step, with room for more points than it has.
 
 // The sums f with the line of points at x and y that the rule along z gives.
 fn add_line(
     p: Vector,
-    lo: Vector,
-    hi: Vector,
+    bounds: Bounds,
     rule: &Rule,
     w: f64,
     x: f64,
@@ -54,12 +51,12 @@ fn add_line(
     f: Newtonian,
 ) -> Newtonian
     requires { IsRule rule.now }
-    ensures { result ≡ Fold rule.now.count (point p lo hi rule.now.count w x y) f }
+    ensures { result ≡ Fold rule.now.count (point p bounds.lo bounds.hi rule.now.count w x y) f }
 {
-    let h = half_widths(lo, hi);
+    let h = half_widths(bounds);
     let mut sums = f;
     for k in 0..rule.count {
-        let z = offset(p.z, lo.z, hi.z, h.z, rule.nodes[k]);
+        let z = offset(p.z, bounds.lo.z, bounds.hi.z, h.z, rule.nodes[k]);
         let wz = rule.weights[k];
         sums = newtonian::add_point(point_weight(w, wz, h), Vector { x, y, z }, sums);
     }
@@ -69,8 +66,7 @@ fn add_line(
 // The sums f with the layer of lines at x that the rules along y and z give.
 fn add_layer(
     p: Vector,
-    lo: Vector,
-    hi: Vector,
+    bounds: Bounds,
     rule_y: &Rule,
     rule_z: &Rule,
     w: f64,
@@ -79,31 +75,31 @@ fn add_layer(
 ) -> Newtonian
     requires along_y { IsRule rule_y.now }
     requires along_z { IsRule rule_z.now }
-    ensures { result ≡ Fold rule_y.now.count (line p lo hi rule_y.now.count rule_z.now.count w x) f }
+    ensures { result ≡ Fold rule_y.now.count (line p bounds.lo bounds.hi rule_y.now.count rule_z.now.count w x) f }
 {
-    let h = half_widths(lo, hi);
+    let h = half_widths(bounds);
     let mut sums = f;
     for j in 0..rule_y.count {
-        let y = offset(p.y, lo.y, hi.y, h.y, rule_y.nodes[j]);
-        sums = add_line(p, lo, hi, rule_z, w * rule_y.weights[j], x, y, sums);
+        let y = offset(p.y, bounds.lo.y, bounds.hi.y, h.y, rule_y.nodes[j]);
+        sums = add_line(p, bounds, rule_z, w * rule_y.weights[j], x, y, sums);
     }
     sums
 }
 
-// The field of the prism from lo to hi at p, with l, m and n points along x, y and z.
-pub fn cubature(p: Vector, lo: Vector, hi: Vector, l: u32, m: u32, n: u32) -> Newtonian
+// The field of the prism at p, with l, m and n points along x, y and z.
+pub fn cubature(p: Vector, bounds: Bounds, l: u32, m: u32, n: u32) -> Newtonian
     requires { (l ≤ max_order) × (m ≤ max_order) × (n ≤ max_order) }
-    ensures { result ≡ cubature p lo hi l m n }
+    ensures { result ≡ cubature p bounds.lo bounds.hi l m n }
 {
-    let rule_x = rule_of(l);
-    let rule_y = rule_of(m);
-    let rule_z = rule_of(n);
-    let h = half_widths(lo, hi);
+    let rule_x = Rule::of_order(l);
+    let rule_y = Rule::of_order(m);
+    let rule_z = Rule::of_order(n);
+    let h = half_widths(bounds);
     let mut sums = newtonian::zero_field();
     for i in 0..rule_x.count {
-        let x = offset(p.x, lo.x, hi.x, h.x, rule_x.nodes[i]);
+        let x = offset(p.x, bounds.lo.x, bounds.hi.x, h.x, rule_x.nodes[i]);
         let w = rule_x.weights[i];
-        sums = add_layer(p, lo, hi, &rule_y, &rule_z, w, x, sums);
+        sums = add_layer(p, bounds, &rule_y, &rule_z, w, x, sums);
     }
     sums
 }

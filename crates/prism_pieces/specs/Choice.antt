@@ -114,13 +114,11 @@ too_rough R v = lt (TOL ⊗ abs v) (ε ⊗ R ⊗ R ⊗ (π/2 ⊕ abs (ln R)))
 
 -- ---- a piece
 
--- cut in the middle of the axis a: the lower half goes from lo to lowerMax, the upper half from upperMin to hi
+-- cut in the middle of the axis a, into the lower and the upper half
 unfoldable pub bisected : Axis → Vector → Vector → Piece
 bisected a lo hi =
     let mid = 0·5 ⊗ (along a lo ⊕ along a hi) in
-    let lowerMax = with a mid hi in
-    let upperMin = with a mid lo in
-    Halves lowerMax upperMin
+    Halves (record { lo = lo; hi = with a mid hi }) (record { lo = with a mid lo; hi = hi })
 
 -- the piece where p is outside, and the cubature not affordable; h are the half-widths
 unfoldable pub piece_near : AxisRule → Vector → Vector → Vector → Vector → Piece

@@ -8,6 +8,7 @@ ghost use Rattle.prism_pieces.specs.Choice.{squared_outside, distance, ceiling, 
 
 use lanes::pick;
 use newtonian::{Newtonian, Vector};
+use prism_corner_sums::Bounds;
 
 // The rule for the longest axis where several are equally long.
 #[derive(Clone, Copy, Debug, PartialEq, Eq)]
@@ -22,12 +23,11 @@ pub enum Axis {
     Z,
 }
 
-// A piece of a prism: its field, or, where it is to be bisected, the corner max of its lower half and the corner min of its
-// upper half, in this order.
+// A piece of a prism: its field, or, where it is to be bisected, its lower and its upper half, in this order.
 #[derive(Clone, Copy)]
 pub enum Piece {
     Whole(Newtonian),
-    Halves(Vector, Vector),
+    Halves(Bounds, Bounds),
 }
 
 // −ln ε, as ln has it.
@@ -50,9 +50,10 @@ fn squared_outside(p: f64, lo: f64, hi: f64) -> f64
 }
 
 #[tactic(auto, unfolding(crate::specs::Choice::distance))]
-fn distance(p: Vector, lo: Vector, hi: Vector) -> f64
-    ensures { result ≡ distance p lo hi }
+fn distance(p: Vector, bounds: Bounds) -> f64
+    ensures { result ≡ distance p bounds.lo bounds.hi }
 {
+    let Bounds { lo, hi } = bounds;
     let x = squared_outside(p.x, lo.x, hi.x);
     let y = squared_outside(p.y, lo.y, hi.y);
     let z = squared_outside(p.z, lo.z, hi.z);
@@ -109,11 +110,11 @@ fn longest(rule: AxisRule, h: Vector) -> Axis
     }
 }
 
+#[tactic(auto, unfolding(crate::specs::Choice::shortest))]
 fn shortest(h: Vector) -> f64
     ensures { result ≡ shortest h }
 {
-    let infinity = f64::from_bits(0x7ff0_0000_0000_0000);
-    doubles::min(doubles::min(doubles::min(infinity, h.x), h.y), h.z)
+    doubles::min(doubles::min(doubles::min(f64::INFINITY, h.x), h.y), h.z)
 }
 
 impl Axis {
@@ -143,21 +144,23 @@ impl Axis {
 }
 
 #[tactic(auto, unfolding(crate::specs::Choice::corner_distance))]
-fn corner_distance(p: Vector, lo: Vector, hi: Vector, k: u32) -> f64
-    ensures { result ≡ corner_distance p lo hi k }
+fn corner_distance(p: Vector, bounds: Bounds, k: u32) -> f64
+    ensures { result ≡ corner_distance p bounds.lo bounds.hi k }
 {
+    let Bounds { lo, hi } = bounds;
     let x = pick(k % 2 == 1, hi.x, lo.x) - p.x;
     let y = pick(k / 2 % 2 == 1, hi.y, lo.y) - p.y;
     let z = pick(k / 4 % 2 == 1, hi.z, lo.z) - p.z;
     roots::root(-0.0 + x * x + y * y + z * z)
 }
 
-fn farthest_corner(p: Vector, lo: Vector, hi: Vector) -> f64
-    ensures { result ≡ farthest_corner p lo hi }
+// By the corner's number, since its bits choose the coordinates.
+fn farthest_corner(p: Vector, bounds: Bounds) -> f64
+    ensures { result ≡ farthest_corner p bounds.lo bounds.hi }
 {
     let mut m = 0.0;
     for k in 0..8u32 {
-        m = doubles::max(m, corner_distance(p, lo, hi, k));
+        m = doubles::max(m, corner_distance(p, bounds, k));
     }
     m
 }
@@ -171,55 +174,59 @@ fn too_rough(r: f64, v: f64) -> bool
         > TOL * doubles::abs(v)
 }
 
+// The two halves across an axis; nothing is searched.
 #[tactic(auto, unfolding(crate::specs::Choice::bisected))]
-fn bisected(a: Axis, lo: Vector, hi: Vector) -> Piece
-    ensures { result ≡ bisected a lo hi }
+fn bisected(a: Axis, bounds: Bounds) -> Piece
+    ensures { result ≡ bisected a bounds.lo bounds.hi }
 {
-    let mid = 0.5 * (a.along(lo) + a.along(hi));
-    let lower_max = a.with(mid, hi);
-    let upper_min = a.with(mid, lo);
-    Piece::Halves(lower_max, upper_min)
+    let mid = 0.5 * (a.along(bounds.lo) + a.along(bounds.hi));
+    let lower = Bounds {
+        hi: a.with(mid, bounds.hi),
+        ..bounds
+    };
+    let upper = Bounds {
+        lo: a.with(mid, bounds.lo),
+        ..bounds
+    };
+    Piece::Halves(lower, upper)
 }
 
 // p is outside, and the cubature not affordable.
 #[tactic(auto, unfolding(crate::specs::Choice::piece_near))]
-fn piece_near(rule: AxisRule, p: Vector, lo: Vector, hi: Vector, h: Vector) -> Piece
-    ensures { result ≡ piece_near rule p lo hi h }
+fn piece_near(rule: AxisRule, p: Vector, bounds: Bounds, h: Vector) -> Piece
+    ensures { result ≡ piece_near rule p bounds.lo bounds.hi h }
 {
-    let s = prism_corner_lanes::corner_sums(p, lo, hi);
+    let s = prism_corner_lanes::corner_sums(p, bounds);
     let a = longest(rule, h);
-    if a.along(h) > 2.0 * shortest(h) {
-        if too_rough(farthest_corner(p, lo, hi), s.potential) {
-            return bisected(a, lo, hi);
-        }
-        // A return of its own: without it the compiled cubature gets longer.
-        return Piece::Whole(s);
+    if a.along(h) > 2.0 * shortest(h) && too_rough(farthest_corner(p, bounds), s.potential) {
+        return bisected(a, bounds);
     }
     Piece::Whole(s)
 }
 
 // p is outside, at the distance d.
-fn piece_outside(rule: AxisRule, d: f64, p: Vector, lo: Vector, hi: Vector) -> Piece
-    ensures { result ≡ piece_outside rule d p lo hi }
+#[tactic(auto, using(crate::proofs::Orders::orders), unfolding(crate::specs::Choice::piece_outside))]
+fn piece_outside(rule: AxisRule, d: f64, p: Vector, bounds: Bounds) -> Piece
+    ensures { result ≡ piece_outside rule d p bounds.lo bounds.hi }
 {
-    let h = prism_cubature::half_widths(lo, hi);
+    let h = prism_cubature::half_widths(bounds);
     let l = axis_order(d, h.x);
     let m = axis_order(d, h.y);
     let n = axis_order(d, h.z);
     if affordable(l, m, n) {
-        return Piece::Whole(prism_cubature::cubature(p, lo, hi, l, m, n));
+        return Piece::Whole(prism_cubature::cubature(p, bounds, l, m, n));
     }
-    piece_near(rule, p, lo, hi, h)
+    piece_near(rule, p, bounds, h)
 }
 
 // The field of the prism as a whole, or its halves.
 #[tactic(auto, unfolding(crate::specs::Choice::piece_of))]
-pub fn piece_of(rule: AxisRule, p: Vector, lo: Vector, hi: Vector) -> Piece
-    ensures { result ≡ piece_of rule p lo hi }
+pub fn piece_of(rule: AxisRule, p: Vector, bounds: Bounds) -> Piece
+    ensures { result ≡ piece_of rule p bounds.lo bounds.hi }
 {
-    let d = distance(p, lo, hi);
+    let d = distance(p, bounds);
     if d > 0.0 {
-        return piece_outside(rule, d, p, lo, hi);
+        return piece_outside(rule, d, p, bounds);
     }
-    Piece::Whole(prism_corner_lanes::corner_sums(p, lo, hi))
+    Piece::Whole(prism_corner_lanes::corner_sums(p, bounds))
 }

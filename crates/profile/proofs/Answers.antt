@@ -1,21 +1,20 @@
--- What `profile` owes, return by return: `not-given` after 1, 2, 12 or 3, `not-accepted` after 4 to 8, and `success`, where the stations decide; `three-refuse`, `three-pass`: 1, 2 and 12
+-- What `profile` owes, return by return: `not-given` after 1, 2, 12 or 3, `not-accepted` after 4 to 8, and `success`, where the stations decide; `given_in_two`: 1, 2 and 12
 -- before 3. Assumes nothing.
-use mathlib.Core.Path.{◌≡◌, sym, ap, ◌∙◌}
+use mathlib.Core.Path.{◌≡◌, refl, sym, ap, ◌∙◌}
 use mathlib.Core.List.{List, ◌++◌}
 use Prim.Native.Nat.{ℕ, ◌*◌, ◌≤◌}
 use native.Mathlib.Omega.{arith}
 use lib.Ieee.{Float}
 use lib.ListN.{length, take, drop, length-append}
 use Rattle.refusals.specs.Causes.{or_else}
-use Rattle.refusals.specs.declared.Cause.{Cause}
-use Rattle.refusals.specs.declared.Cause.TheVariants.{None, Refused}
+use Rattle.std.specs.Prelude.{Ok, Err}
+use Rattle.refusals.specs.Causes.{Cause}
 use Rattle.refusals.specs.declared.Refusal.{Refusal}
 use Rattle.refusals.proofs.Causes.{both}
 use Rattle.newtonian.specs.Vectors.{field_size}
 use Rattle.mesh_orders.specs.Edges.{max_stations}
 use Rattle.mesh_orders.specs.Order.{order_list}
 use Rattle.mesh_orders.specs.OrderLaws.{order-length}
-use Rattle.mesh.specs.declared.Solid.{Solid}
 use Rattle.mesh.specs.Accepted.{Counted}
 use Rattle.mesh.specs.CauseLaws.{none-malformed, none-many, none_short}
 use Rattle.mesh.specs.Check.{surface_cause, solid_of, work_after}
@@ -28,17 +27,16 @@ use Rattle.profile.specs.FilledLaws.{fields_as_they_were, refused-input, done}
 use Rattle.profile.specs.WorkLaws.{work_untouched, work-by_surface}
 use Rattle.profile.specs.Profile.{station_count, field_at, malformed, too_many, too_short, out_of_limits, given_cause, input_cause, profile_cause, fields_after}
 
--- four causes, of which the first three are tried together
-pub three-refuse : (a b c d : Cause) (r : Refusal) → or_else a (or_else b c) ≡ Refused r → or_else a (or_else b (or_else c d)) ≡ Refused r
-three-refuse (Refused x) b c d r e = e
-three-refuse None (Refused x) c d r e = e
-three-refuse None None c d r e = rw e
+four_in_two : (a b c d : Cause) → or_else a (or_else b (or_else c d)) ≡ or_else (or_else a (or_else b c)) d
+four_in_two (Err x) b c d = refl
+four_in_two (Ok _) (Err x) c d = refl
+four_in_two (Ok _) (Ok _) c d = refl
 
-pub three-pass : (a b c d : Cause) → or_else a (or_else b c) ≡ None → or_else a (or_else b (or_else c d)) ≡ d
-three-pass a b c d e =
-    let p = both a (or_else b c) e in
-    let q = both b c p.1 in
-    rw (p.0, q.0, q.1)
+-- 1, 2 and 12, which are tried together, then 3
+pub given_in_two : (v : List Float) (f : List ℕ) (st : List Float) (n m : ℕ)
+    → given_cause v f st n m ≡ or_else (or_else (malformed v f st) (or_else (too_many v f st) (too_short f st n m))) (or_else (mesh.out_of_limits v) (mesh.out_of_limits st))
+unfolding given_cause out_of_limits
+given_in_two v f st n m = four_in_two (malformed v f st) (too_many v f st) (too_short f st n m) (out_of_limits v st)
 
 module _ (v : List Float) (f : List ℕ) (st : List Float) (w : List ℕ) (l : List Float) where
   abbrev first-cause : Cause
@@ -49,17 +47,17 @@ module _ (v : List Float) (f : List ℕ) (st : List Float) (w : List ℕ) (l : L
   Owed c w' l' = (c ≡ first-cause) × ((w' ≡ work_after first-cause f w) × (l' ≡ fields_after first-cause v f st l))
 
   -- refused before any field: fields are as they were
-  refuses : (r : Refusal) → input_cause v f st (length w) (length l) ≡ Refused r → (w' : List ℕ) → w' ≡ work_after first-cause f w → Owed (Refused r) w' l
+  refuses : (r : Refusal) → input_cause v f st (length w) (length l) ≡ Err r → (w' : List ℕ) → w' ≡ work_after first-cause f w → Owed (Err r) w' l
   refuses r e w' u =
       let q = refused-input v f st (length w) (length l) r e in
       (sym q, (u, sym (ap (λ (c : Cause). fields_after c v f st l) q ∙ fields_as_they_were v f st r l (only-input v f st (length w) (length l) r e))))
 
   -- 1, 2, 12 or 3
-  pub not-given : (r : Refusal) → given_cause v f st (length w) (length l) ≡ Refused r → Owed (Refused r) w l
+  pub not-given : (r : Refusal) → given_cause v f st (length w) (length l) ≡ Err r → Owed (Err r) w l
   unfolding input_cause
   not-given r e = refuses r (ap (λ (c : Cause). or_else c (surface_cause v f)) e) w (sym (work_untouched v f st (length w) (length l) w r e))
 
-  module _ (h : given_cause v f st (length w) (length l) ≡ None) where
+  module _ (h : given_cause v f st (length w) (length l) ≡ Ok tt) where
     to-surface : input_cause v f st (length w) (length l) ≡ surface_cause v f
     unfolding input_cause
     to-surface = ap (λ (c : Cause). or_else c (surface_cause v f)) h
@@ -79,7 +77,7 @@ module _ (v : List Float) (f : List ℕ) (st : List Float) (w : List ℕ) (l : L
       owed-work = e ∙ sym (work-by_surface v f st (length w) (length l) w h)
 
       -- 4 to 8
-      pub not-accepted : (r : Refusal) → solid_of (surface_cause v f) (volume v f) ≡ Solid.Refused r → Owed (Refused r) w' l
+      pub not-accepted : (r : Refusal) → solid_of (surface_cause v f) (volume v f) ≡ Err r → Owed (Err r) w' l
       not-accepted r q = refuses r (to-surface ∙ solid-refused (surface_cause v f) (volume v f) r q) w' owed-work
 
       -- what there is after the check: a body, the order list at the front of work, room for the records; the stations decide the rest
@@ -91,7 +89,7 @@ module _ (v : List Float) (f : List ℕ) (st : List Float) (w : List ℕ) (l : L
         pub space : field_size * station_count st ≤ length l
         pub answered : (c : Cause) (l' : List Float) → Done (field_at v f st) (station_count st) l c l' → Owed c w' l'
 
-      pub success : (x : Float) → solid_of (surface_cause v f) (volume v f) ≡ Solid.Volume x → Success
+      pub success : (x : Float) → solid_of (surface_cause v f) (volume v f) ≡ Ok x → Success
       unfolding work_after
       success x q =
           let n = (solid-volume (surface_cause v f) (volume v f) x q).0 in

@@ -5,8 +5,8 @@
 use Rattle.std.specs.Prelude.{◌≡◌, List, ℕ, ◌<◌, Float}
 use Rattle.std.proofs.Common.{ap, ◌∙◌, arith}
 use Rattle.std.proofs.Math.Path.{subst}
-use Rattle.refusals.specs.declared.Cause.{Cause}
-use Rattle.refusals.specs.declared.Cause.TheVariants.{None, Refused}
+use Rattle.std.specs.Prelude.{Ok, Err}
+use Rattle.refusals.specs.Causes.{Cause}
 use Rattle.refusals.specs.declared.Refusal.TheVariants.{TooManyEdges}
 use Rattle.refusals.proofs.Causes.{both, from_both, each, from_each, stop}
 use Rattle.mesh.proofs.CauseNumbers.{Only, skip}
@@ -29,22 +29,22 @@ module _ (v : List Float) (f : List ℕ) (st : List Float) where
     -- ---- a value at each of the first n stations
 
     module _ (h : InputRight v f st w o) (i : ℕ) (l : i < station_count st) where
-      value-at : cause_at i ≡ None → HasValue (single_call v f st w i)
+      value-at : cause_at i ≡ Ok tt → HasValue (single_call v f st w i)
       value-at e = let x = has_value (field_at v f st i) e in record { field = x.field; given = value_single v f st w o h i l x.field x.given }
 
-      at_value : HasValue (single_call v f st w i) → cause_at i ≡ None
+      at_value : HasValue (single_call v f st w i) → cause_at i ≡ Ok tt
       at_value x = ap cause_of (single_value_lem v f st w o h i l x.field x.given)
 
     -- ---- no cause
 
-    pub none_each : profile_cause v f st w o ≡ None → NoCause v f st w o
+    pub none_each : profile_cause v f st w o ≡ Ok tt → NoCause v f st w o
     unfolding profile_cause stations_cause
     none_each e =
         let t = both (input_cause v f st w o) (stations_cause v f st) e in
         let h = none-input v f st w o t.0 in
         record { input = h; each = λ i l. value-at h i l (each (station_count st) cause_at t.1 i l) }
 
-    pub each_none : NoCause v f st w o → profile_cause v f st w o ≡ None
+    pub each_none : NoCause v f st w o → profile_cause v f st w o ≡ Ok tt
     unfolding profile_cause stations_cause
     each_none h =
         from_both (input_cause v f st w o) (stations_cause v f st) (input_none v f st w o h.input)
@@ -52,7 +52,7 @@ module _ (v : List Float) (f : List ℕ) (st : List Float) where
 
     -- ---- 11 with the station i
 
-    pub refused-at : (i : ℕ) → profile_cause v f st w o ≡ Refused (TooManyEdges i) → RefusedAt v f st w o i
+    pub refused-at : (i : ℕ) → profile_cause v f st w o ≡ Err (TooManyEdges i) → RefusedAt v f st w o i
     unfolding profile_cause
     refused-at i e =
         let t = skip InputRefusal (input_cause v f st w o) (stations_cause v f st) (TooManyEdges i) (only-input v f st w o) (not_input i) e in
@@ -68,7 +68,7 @@ module _ (v : List Float) (f : List ℕ) (st : List Float) where
           before = λ j l. value-at h j (omega (arith, g.within)) (each k cause_at g.before j l);
         })
 
-    pub at_refuses : (i : ℕ) → RefusedAt v f st w o i → profile_cause v f st w o ≡ Refused (TooManyEdges i)
+    pub at_refuses : (i : ℕ) → RefusedAt v f st w o i → profile_cause v f st w o ≡ Err (TooManyEdges i)
     unfolding stations_cause
     at_refuses i h =
         past_input v f st w o (input_none v f st w o h.input)

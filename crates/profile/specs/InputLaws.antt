@@ -6,10 +6,10 @@ use Rattle.std.specs.Prelude.{◌≡◌, refl, true, List, ℕ, ◌+◌, ◌*◌
 use Rattle.std.proofs.Math.Path.{ap}
 use Rattle.std.proofs.Common.{inl, inr, arith}
 use borrow.Author.Tests.{eq-eqb, eqb-true, le-leb, leb-true}
+use Rattle.std.specs.Prelude.{Ok}
 use Rattle.refusals.specs.Answer.{or_answer}
+use Rattle.refusals.specs.Causes.{Cause}
 use Rattle.refusals.specs.Causes.{unless}
-use Rattle.refusals.specs.declared.Cause.{Cause}
-use Rattle.refusals.specs.declared.Cause.TheVariants.{None}
 use Rattle.refusals.specs.declared.Refusal.TheVariants.{Malformed, TooMany, TooShort}
 use Rattle.refusals.proofs.Causes.{both, holds}
 use Rattle.newtonian.specs.Vectors.{vector_within_limits, field_size}
@@ -52,7 +52,7 @@ module _ (v : List Float) (f : List ℕ) (st : List Float) (w : ℕ) where
       pub vertex-numbers : NumbersWithin v
       pub station-numbers : NumbersWithin st
 
-    pub none-given : given_cause v f st w o ≡ None → Given
+    pub none-given : given_cause v f st w o ≡ Ok tt → Given
     unfolding given_cause malformed too_many too_short out_of_limits
     none-given e =
         let a = both (malformed v f st) _ e in
@@ -73,7 +73,7 @@ module _ (v : List Float) (f : List ℕ) (st : List Float) (w : ℕ) where
           station-numbers = none_limits st f x.1;
         }
 
-    pub none-input : input_cause v f st w o ≡ None → InputRight v f st w o
+    pub none-input : input_cause v f st w o ≡ Ok tt → InputRight v f st w o
     unfolding input_cause
     none-input e =
         let t = both (given_cause v f st w o) (surface_cause v f) e in
@@ -102,7 +102,7 @@ module _ (v : List Float) (f : List ℕ) (st : List Float) (w : ℕ) where
       counted : Counted v f w
       counted = record { coordinates = h.coordinates; corners = h.corners; vertices = h.vertices; faces = h.faces; room = h.work }
 
-      no_surface : surface_cause v f ≡ None
+      no_surface : surface_cause v f ≡ Ok tt
       no_surface =
           checks v f (record {
             body = is_body v f w counted h.inside;
@@ -111,7 +111,7 @@ module _ (v : List Float) (f : List ℕ) (st : List Float) (w : ℕ) where
             positive = h.positive;
           })
 
-      pub input_none : input_cause v f st w o ≡ None
+      pub input_none : input_cause v f st w o ≡ Ok tt
       unfolding input_cause given_cause malformed too_many too_short out_of_limits
       input_none =
           rw (
@@ -128,7 +128,7 @@ module _ (v : List Float) (f : List ℕ) (st : List Float) (w : ℕ) where
 
       -- ---- the single call
 
-      single_none : (i : ℕ) → i < station_count st → polyhedron_cause (station_at st i) v f w ≡ None
+      single_none : (i : ℕ) → i < station_count st → polyhedron_cause (station_at st i) v f w ≡ Ok tt
       unfolding polyhedron_cause single.given_cause
       single_none i l = rw (count_none v f w counted, limits_none v f h.vertex-numbers, station-within st i h.station-numbers l, no_surface)
 

@@ -2,11 +2,11 @@
 -- face list and `st` the list of stations, three coordinates to a station; `w` and `o` are the lengths of work and fields. Each cause of refusal carries its number in document 01.
 -- What work holds afterwards is `work_after` of the mesh. Definitions only.
 use Rattle.std.specs.Prelude.{cond, List, [], ◌∷◌, ◌++◌, ℕ, ◌*◌, ◌/◌, ◌%◌, eqb, leb, Float, length, drop}
+use Rattle.std.specs.Prelude.{Ok, Err}
 use Rattle.refusals.specs.Answer.{Answer}
+use Rattle.refusals.specs.Causes.{Cause}
 use Rattle.refusals.specs.Causes.{or_else, unless}
 use Rattle.refusals.specs.Numbers.{number_of, place_of}
-use Rattle.refusals.specs.declared.Cause.{Cause}
-use Rattle.refusals.specs.declared.Cause.TheVariants.{None, Refused}
 use Rattle.refusals.specs.declared.Refusal.TheVariants.{Malformed, TooMany, TooShort}
 use Rattle.newtonian.specs.Vectors.{field_size}
 use Rattle.newtonian.specs.declared.Newtonian.{Newtonian}
@@ -83,8 +83,8 @@ profile_cause v f st w o = or_else (input_cause v f st w o) (stations_cause v f 
 -- how many records are filled, of s stations: all after no refusal, i after 11 at station i, 0 after every other. Where the stations are reached, that is how many come before the first
 -- that is refused (`filled_agrees` in StationLaws)
 unfoldable pub filled : Cause → ℕ → ℕ
-filled None s = s
-filled (Refused r) s = cond (eqb (number_of r) 11) (place_of r) 0
+filled (Ok _) s = s
+filled (Err r) s = cond (eqb (number_of r) 11) (place_of r) 0
 
 -- the entries of fields, which were l: the filled records, one after the other; those past them never change
 unfoldable pub fields_after : Cause → List Float → List ℕ → List Float → List Float → List Float

@@ -15,10 +15,10 @@ use Rattle.std.proofs.Common.{◌∙◌, arith, le-leb}
 use Rattle.std.proofs.Math.Logic.{inl, inr, ⊎_elim}
 use Rattle.std.proofs.Math.ListN.{drop}
 use Rattle.std.proofs.Math.Seq.{drop_at}
-use Rattle.refusals.specs.Answer.{Answer, value, refused}
+use Rattle.std.specs.Prelude.{Ok, Err}
+use Rattle.refusals.specs.Answer.{Answer}
+use Rattle.refusals.specs.Causes.{Cause}
 use Rattle.refusals.specs.Causes.{first_of}
-use Rattle.refusals.specs.declared.Cause.{Cause}
-use Rattle.refusals.specs.declared.Cause.TheVariants.{None, Refused}
 use Rattle.refusals.specs.declared.Refusal.{Refusal}
 use Rattle.refusals.specs.declared.Refusal.TheVariants.{TooManyEdges}
 use Rattle.refusals.proofs.Causes.{each}
@@ -67,30 +67,30 @@ module _ (v : List Float) (f : List ℕ) (st : List Float) (w : ℕ) (l : List F
       let n = filled cause (station_count st) in
       drop_at (records (field_at v f st) n) (drop (field_size * n) l) (field_size * n) (records-length (field_at v f st) n (is-filled v f st w (length l)).values)
 
-  pub fields_untouched : (r : Refusal) → cause ≡ Refused r → InputRefusal r → fields_after cause v f st l ≡ l
+  pub fields_untouched : (r : Refusal) → cause ≡ Err r → InputRefusal r → fields_after cause v f st l ≡ l
   fields_untouched r e h = ap (λ (c : Cause). fields_after c v f st l) e ∙ fields_as_they_were v f st r l h
 
-pub earlier_records : (i s : ℕ) → filled (Refused (TooManyEdges i)) s ≡ i
+pub earlier_records : (i s : ℕ) → filled (Err (TooManyEdges i)) s ≡ i
 unfolding filled
 earlier_records i s = refl
 
-pub all-records : (s : ℕ) → filled None s ≡ s
+pub all-records : (s : ℕ) → filled (Ok tt) s ≡ s
 unfolding filled
 all-records s = refl
 
 -- ---- the causes
 
 module _ (v : List Float) (f : List ℕ) (st : List Float) (w o : ℕ) where
-  pub input-exactly : (input_cause v f st w o ≡ None) ↔ InputRight v f st w o
+  pub input-exactly : (input_cause v f st w o ≡ Ok tt) ↔ InputRight v f st w o
   input-exactly = (none-input v f st w o, input_none v f st w o)
 
-  pub no_cause-exactly : (profile_cause v f st w o ≡ None) ↔ NoCause v f st w o
+  pub no_cause-exactly : (profile_cause v f st w o ≡ Ok tt) ↔ NoCause v f st w o
   no_cause-exactly = (none_each v f st w o, each_none v f st w o)
 
-  pub refused-exactly : (i : ℕ) → (profile_cause v f st w o ≡ Refused (TooManyEdges i)) ↔ RefusedAt v f st w o i
+  pub refused-exactly : (i : ℕ) → (profile_cause v f st w o ≡ Err (TooManyEdges i)) ↔ RefusedAt v f st w o i
   refused-exactly i = (refused-at v f st w o i, at_refuses v f st w o i)
 
-  pub only_11 : (r : Refusal) → profile_cause v f st w o ≡ Refused r → InputRefusal r ⊎ StationRefusal (station_count st) r
+  pub only_11 : (r : Refusal) → profile_cause v f st w o ≡ Err r → InputRefusal r ⊎ StationRefusal (station_count st) r
   unfolding profile_cause
   only_11 r e =
       only_else (λ q. InputRefusal q ⊎ StationRefusal (station_count st) q) (input_cause v f st w o) (stations_cause v f st)
@@ -120,14 +120,14 @@ module _ (v : List Float) (f : List ℕ) (p : Vector) (w : ℕ) where
     after-cause : (c : Cause) → cause_of (polyhedron p v f w) ≡ c → after ≡ fields_after c v f one l
     after-cause c e = ap (λ (d : Cause). fields_after d v f one l) (one-station (length l) h ∙ e)
 
-    pub one_record : (x : Newtonian) → polyhedron p v f w ≡ value x → after ≡ field_numbers x ++ drop field_size l
+    pub one_record : (x : Newtonian) → polyhedron p v f w ≡ Ok x → after ≡ field_numbers x ++ drop field_size l
     unfolding fields_after filled records polyhedron
     one_record x e =
-        after-cause None (ap cause_of e)
+        after-cause (Ok tt) (ap cause_of e)
         ∙ ap (λ (a : Answer Newtonian). numbers_of a ++ drop field_size l) (past_causes (polyhedron_cause p v f w) (polyhedron_at 0 p v f) x e)
 
-    pub one-refused : (r : Refusal) → polyhedron p v f w ≡ refused r → after ≡ l
+    pub one-refused : (r : Refusal) → polyhedron p v f w ≡ Err r → after ≡ l
     unfolding fields_after filled records
     one-refused r e =
-        after-cause (Refused r) (ap cause_of e)
-        ∙ ⊎_elim (λ i. fields_as_they_were v f one r l i) (λ q. ap (λ (s : Refusal). fields_after (Refused s) v f one l) q) (polyhedron-refused v f p w r e)
+        after-cause (Err r) (ap cause_of e)
+        ∙ ⊎_elim (λ i. fields_as_they_were v f one r l i) (λ q. ap (λ (s : Refusal). fields_after (Err s) v f one l) q) (polyhedron-refused v f p w r e)

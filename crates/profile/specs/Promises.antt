@@ -3,7 +3,8 @@
 use Rattle.std.specs.Prelude.{◌≡◌, true, false, List, ℕ, ◌*◌, ◌%◌, ◌≤◌, ◌<◌, Float, length, take, drop}
 use Rattle.std.specs.Float.Ieee.{lt}
 use Rattle.doubles.specs.Constants.{0·0}
-use Rattle.refusals.specs.Answer.{Answer, value, refused}
+use Rattle.std.specs.Prelude.{Ok, Err}
+use Rattle.refusals.specs.Answer.{Answer}
 use Rattle.refusals.specs.declared.Refusal.{Refusal}
 use Rattle.refusals.specs.declared.Refusal.TheVariants.{TooManyEdges}
 use Rattle.newtonian.specs.Vectors.{field_numbers, field_size}
@@ -18,7 +19,7 @@ use Rattle.profile.specs.Profile.{station_count, station_at}
 -- the call has a value
 pub record HasValue (a : Answer Newtonian) : Type 0 where
   pub field : Newtonian
-  pub given : a ≡ value field
+  pub given : a ≡ Ok field
 
 -- r is 11 with the number of one of n stations
 pub record StationRefusal (n : ℕ) (r : Refusal) : Type 0 where
@@ -34,7 +35,7 @@ module _ (v : List Float) (f : List ℕ) (st : List Float) (w : ℕ) where
   -- record i of the list l, its numbers 13 i to 13 i + 12, is what the single call answers at station i
   pub record RecordFromCall (l : List Float) (i : ℕ) : Type 0 where
     pub field : Newtonian
-    pub answered : single_call i ≡ value field
+    pub answered : single_call i ≡ Ok field
     pub stored : take field_size (drop (field_size * i) l) ≡ field_numbers field
 
   -- document 01's causes before any field, each denied by itself
@@ -71,5 +72,5 @@ module _ (v : List Float) (f : List ℕ) (st : List Float) (w : ℕ) where
   pub record RefusedAt (o i : ℕ) : Type 0 where
     pub input : InputRight o
     pub station : i < station_count st
-    pub itself : single_call i ≡ refused (TooManyEdges 0)
+    pub itself : single_call i ≡ Err (TooManyEdges 0)
     pub before : (j : ℕ) → j < i → HasValue (single_call j)

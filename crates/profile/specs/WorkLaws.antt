@@ -5,8 +5,8 @@ use Rattle.std.specs.Prelude.{◌≡◌, refl, true, ◌&&◌, List, ℕ, ◌*�
 use Rattle.std.proofs.Math.Path.{ap}
 use Rattle.std.proofs.Math.Dec.{eqb, leb}
 use Rattle.refusals.specs.Causes.{or_else, unless}
-use Rattle.refusals.specs.declared.Cause.{Cause}
-use Rattle.refusals.specs.declared.Cause.TheVariants.{None, Refused}
+use Rattle.std.specs.Prelude.{Ok, Err}
+use Rattle.refusals.specs.Causes.{Cause}
 use Rattle.refusals.specs.declared.Refusal.{Refusal}
 use Rattle.refusals.specs.declared.Refusal.TheVariants.{Malformed, TooMany, TooShort, OutOfLimits}
 use Rattle.newtonian.specs.Vectors.{field_size}
@@ -39,16 +39,16 @@ module _ (v : List Float) (f : List ℕ) (st : List Float) (w o : ℕ) (l : List
       (only_else Leaves (unless (leb (length f) w) TooShort) _ (only-unless Leaves (leb (length f) w) TooShort refl) (only-unless Leaves (leb (field_size * station_count st) o) TooShort refl))
       (only_else Leaves (mesh.out_of_limits v) _ (numbers_leave v) (numbers_leave st))))
 
-  pub work_untouched : (r : Refusal) → given_cause v f st w o ≡ Refused r → work_after (profile_cause v f st w o) f l ≡ l
+  pub work_untouched : (r : Refusal) → given_cause v f st w o ≡ Err r → work_after (profile_cause v f st w o) f l ≡ l
   unfolding profile_cause input_cause work_after
   work_untouched r e = rw (e, given_leaves r e)
 
-  by_surface : (c d : Cause) → ((r : Refusal) → d ≡ Refused r → work_after (Refused r) f l ≡ work_after None f l) → work_after (or_else c d) f l ≡ work_after c f l
-  by_surface (Refused r) d h = refl
-  by_surface None None h = refl
-  by_surface None (Refused r) h = h r refl
+  by_surface : (c d : Cause) → ((r : Refusal) → d ≡ Err r → work_after (Err r) f l ≡ work_after (Ok tt) f l) → work_after (or_else c d) f l ≡ work_after c f l
+  by_surface (Err r) d h = refl
+  by_surface (Ok _) (Ok _) h = refl
+  by_surface (Ok _) (Err r) h = h r refl
 
-  pub work-by_surface : given_cause v f st w o ≡ None → work_after (profile_cause v f st w o) f l ≡ work_after (surface_cause v f) f l
+  pub work-by_surface : given_cause v f st w o ≡ Ok tt → work_after (profile_cause v f st w o) f l ≡ work_after (surface_cause v f) f l
   unfolding profile_cause input_cause work_after leaves_work
   work-by_surface e =
-      rw e (by_surface (surface_cause v f) (stations_cause v f st) (λ r q. ap (λ (s : Refusal). work_after (Refused s) f l) (of_station v f st r q).given))
+      rw e (by_surface (surface_cause v f) (stations_cause v f st) (λ r q. ap (λ (s : Refusal). work_after (Err s) f l) (of_station v f st r q).given))

@@ -1,4 +1,5 @@
-// `profile`: the fields of a closed polyhedron at many stations over one mesh, a record of thirteen numbers for each.
+// `profile`: the fields of a closed polyhedron at many stations over one mesh, a record of thirteen numbers for each. The three
+// lists stay arguments, as C passes them; once they are checked, vertices and faces are a `Mesh`.
 #![tactic(auto)]
 
 ghost use Rattle.std.specs.Prelude.{◌≡◌, ◌*◌, ◌≤◌, length};
@@ -7,65 +8,68 @@ ghost use Rattle.newtonian.specs.Vectors.{field_size};
 ghost use Rattle.mesh_orders.specs.Edges.{max_stations};
 ghost use Rattle.mesh_orders.specs.Order.{order_list};
 ghost use Rattle.mesh.specs.Check.{work_after};
-ghost use Rattle.mesh.specs.Surface.{Body};
 ghost use Rattle.profile_records.specs.Records.{Done};
 ghost use Rattle.profile.specs.Profile.{station_count, field_at, malformed, too_many, too_short, given_cause, profile_cause, fields_after};
 
-use mesh::Solid;
+use mesh::surface::Mesh;
 use mesh_orders::edges::{MAX_FACES, MAX_STATIONS, MAX_VERTICES};
 use newtonian::FIELD_SIZE;
-use refusals::{Cause, Refusal};
+use polyhedron_centroid::Center;
+use refusals::Refusal;
 
 // The causes 1, 2 and 12, for a work list of room entries and a list of space numbers for the records.
 #[tactic(auto, unfolding(crate::specs::Profile::malformed, crate::specs::Profile::too_many, crate::specs::Profile::too_short, mesh::specs::Check::malformed, mesh::specs::Check::too_many, mesh::specs::Check::too_short))]
-fn count_cause(stations: &[f64], verts: &[f64], faces: &[u32], room: usize, space: usize) -> Cause
+fn count_cause(
+    stations: &[f64],
+    verts: &[f64],
+    faces: &[u32],
+    room: usize,
+    space: usize,
+) -> Result<(), Refusal>
     ensures { result ≡ or_else (malformed verts.now faces.now stations.now)
         (or_else (too_many verts.now faces.now stations.now) (too_short faces.now stations.now room space)) }
 {
     if verts.len() % 3 != 0 || faces.len() % 3 != 0 || stations.len() % 3 != 0 {
-        return Cause::Refused(Refusal::Malformed);
+        return Err(Refusal::Malformed);
     }
     if MAX_VERTICES < verts.len() / 3
         || MAX_FACES < faces.len() / 3
         || MAX_STATIONS < stations.len() / 3
     {
-        return Cause::Refused(Refusal::TooMany);
+        return Err(Refusal::TooMany);
     }
     if room < faces.len() || space < FIELD_SIZE * (stations.len() / 3) {
-        return Cause::Refused(Refusal::TooShort);
+        return Err(Refusal::TooShort);
     }
-    Cause::None
+    Ok(())
 }
 
 // The causes 1, 2, 12 and 3.
-fn given_cause(stations: &[f64], verts: &[f64], faces: &[u32], room: usize, space: usize) -> Cause
+fn given_cause(
+    stations: &[f64],
+    verts: &[f64],
+    faces: &[u32],
+    room: usize,
+    space: usize,
+) -> Result<(), Refusal>
     ensures { result ≡ given_cause verts.now faces.now stations.now room space }
 {
-    let counts = count_cause(stations, verts, faces, room, space);
-    if let Cause::Refused(r) = counts {
-        return Cause::Refused(r);
-    }
-    let numbers = mesh::scan::out_of_limits(verts);
-    if let Cause::Refused(r) = numbers {
-        return Cause::Refused(r);
-    }
+    count_cause(stations, verts, faces, room, space)?;
+    mesh::scan::out_of_limits(verts)?;
     mesh::scan::out_of_limits(stations)
 }
 
 // The records of a checked mesh, by its order list, up to the first station that is refused.
 fn checked_profile(
     stations: &[f64],
-    verts: &[f64],
-    faces: &[u32],
+    mesh: Mesh,
     order: &[u32],
     fields: &mut [f64],
-) -> Cause
-    requires { Body verts.now faces.now × (order.now ≡ order_list faces.now) × (station_count stations.now ≤ max_stations) × (field_size * station_count stations.now ≤ length fields.old) }
-    ensures { Done (field_at verts.now faces.now stations.now) (station_count stations.now) fields.old result fields.new }
+) -> Result<(), Refusal>
+    requires { (order.now ≡ order_list mesh.faces.now) × (station_count stations.now ≤ max_stations) × (field_size * station_count stations.now ≤ length fields.old) }
+    ensures { Done (field_at mesh.entry.verts.now mesh.entry.faces.now stations.now) (station_count stations.now) fields.old result fields.new }
 {
-    let c = polyhedron_centroid::centroid(verts, faces, order);
-    let r = polyhedron_centroid::radius(c, verts, faces, order);
-    profile_fields::profile_fields(stations, c, r, verts, faces, fields)
+    profile_fields::profile_fields(stations, Center::of(mesh, order), mesh, fields)
 }
 
 // The fields of a closed polyhedron at S stations, at unit Gρ, into the front of fields, thirteen numbers to a station: potential, gradient, Hessian
@@ -77,21 +81,15 @@ pub fn profile(
     faces: &[u32],
     work: &mut [u32],
     fields: &mut [f64],
-) -> Cause
+) -> Result<(), Refusal>
     ensures value { result ≡ profile_cause verts.now faces.now stations.now (length work.old) (length fields.old) }
     ensures work { work.new ≡ work_after (profile_cause verts.now faces.now stations.now (length work.old) (length fields.old))
         faces.now work.old }
     ensures fields { fields.new ≡ fields_after (profile_cause verts.now faces.now stations.now (length work.old) (length fields.old))
         verts.now faces.now stations.now fields.old }
 {
-    let given = given_cause(stations, verts, faces, work.len(), fields.len());
-    if let Cause::Refused(r) = given {
-        return Cause::Refused(r);
-    }
-    let surface = mesh_check::check_surface(verts, faces, work);
-    if let Solid::Refused(r) = surface {
-        return Cause::Refused(r);
-    }
+    given_cause(stations, verts, faces, work.len(), fields.len())?;
+    mesh_check::check_surface(verts, faces, work)?;
     let n = faces.len();
-    checked_profile(stations, verts, faces, &work[..n], fields)
+    checked_profile(stations, Mesh { verts, faces }, &work[..n], fields)
 }

@@ -1,25 +1,21 @@
 -- Records that are stored one after the other, up to the first station that is refused. States: `none_written`, `next-written`: no record yet, and one more; `stopped`, `ended`: the call is
--- done, where a station is refused or there are no more; `refused-on`: what a station's refusal ends, it ends for its block. Assumes nothing.
+-- done, where a station is refused or there are no more. Assumes nothing.
 use mathlib.Core.List.{List, ◌++◌, append_assoc}
-use mathlib.Core.Path.{◌≡◌, refl, sym, ap, ◌∙◌}
-use Prim.Native.Nat.{ℕ, suc, ◌+◌, ◌*◌, ◌≤◌, ◌<◌}
+use mathlib.Core.Path.{◌≡◌, refl, sym, ap}
+use Prim.Native.Nat.{ℕ, suc, ◌+◌, ◌*◌, ◌<◌}
 use native.Mathlib.Numerals.{add-one}
 use native.Mathlib.Omega.{arith}
 use lib.Ieee.{Float}
-use lib.ListN.{drop, take, get_or}
+use lib.ListN.{drop, take}
 use lib.Seq.{drop_at, drop-drop, take_at}
-use Rattle.newtonian.specs.Field.{answer_of}
-use Rattle.newtonian.specs.declared.Field.{Field}
-use Rattle.polyhedron_fields.specs.BlockFields.{no_field}
-use Rattle.profile_records.specs.Records.{cause_of, is_refused, records, fields_after, Written, Done, Stored}
+use Rattle.std.specs.Prelude.{Ok, Err}
+use Rattle.refusals.specs.Answer.{Answer}
+use Rattle.profile_records.specs.Records.{cause_of, is_refused, records, fields_after, Written, Done}
 use Rattle.profile_records.specs.RecordsLaws.{records-length, filled_is, filled-all}
 use Rattle.newtonian.specs.Vectors.{field_numbers, field_size}
 use Rattle.newtonian.specs.declared.Newtonian.{Newtonian}
 use Rattle.refusals.proofs.Causes.{more, stop}
-use Rattle.refusals.specs.Answer.{Answer, value, refused}
 use Rattle.refusals.specs.Causes.{first_of}
-use Rattle.refusals.specs.declared.Cause.{Cause}
-use Rattle.refusals.specs.declared.Cause.TheVariants.{None, Refused}
 use Rattle.refusals.specs.declared.Refusal.{Refusal}
 
 module _ (a : ℕ → Answer Newtonian) where
@@ -28,7 +24,7 @@ module _ (a : ℕ → Answer Newtonian) where
   none_written o = record { none = refl; fields = refl }
 
   -- the m numbers after the first 13 k of l become those of station k
-  pub next-written : (k m : ℕ) (o l ys : List Float) (x : Newtonian) → Written a k o l → a k ≡ value x → m ≡ field_size → ys ≡ field_numbers x
+  pub next-written : (k m : ℕ) (o l ys : List Float) (x : Newtonian) → Written a k o l → a k ≡ Ok x → m ≡ field_size → ys ≡ field_numbers x
       → Written a (k + 1) o (take (field_size * k) l ++ (ys ++ drop m (drop (field_size * k) l)))
   unfolding records
   next-written k m o l ys x w e q h =
@@ -41,21 +37,13 @@ module _ (a : ℕ → Answer Newtonian) where
             (sym (append_assoc R (field_numbers x) (drop (field_size * suc k) o)));
       }
 
-  pub stopped : (k n : ℕ) (o l : List Float) (r : Refusal) → Written a k o l → k < n → a k ≡ refused r → Done a n o (Refused r) l
+  pub stopped : (k n : ℕ) (o l : List Float) (r : Refusal) → Written a k o l → k < n → a k ≡ Err r → Done a n o (Err r) l
   unfolding fields_after
   stopped k n o l r w h e = record {
     cause = sym (stop n k (λ i. cause_of (a i)) r h w.none (ap cause_of e));
     fields = rw (filled_is a k n (omega arith) w.none (λ _. ap is_refused e)) w.fields;
   }
 
-  pub ended : (n : ℕ) (o l : List Float) → Written a n o l → Done a n o None l
+  pub ended : (n : ℕ) (o l : List Float) → Written a n o l → Done a n o (Ok tt) l
   unfolding fields_after
   ended n o l w = record { cause = sym w.none; fields = rw (filled-all a n w.none) w.fields }
-
-  pub refused-on : (k m : ℕ) (o l : List Float) (c : Cause) (r : Refusal) → Stored a k o c l → c ≡ Refused r → k ≤ m → Stored a m o (Refused r) l
-  refused-on k m o l c r s e h = record { on = λ z. absurd (let y : ◌≡◌ {A = ℕ} 0 1 = cc in omega arith); over = λ n j z. rw e at (s.over n (omega arith) (λ y. z (sym e ∙ y))) }
-
--- what is told of the block: a gives the stations' answers, and the records before the block are written
-pub record Told (first n : ℕ) (answers : List Field) (l₀ : List Float) (a : ℕ → Answer Newtonian) (o : List Float) : Type 0 where
-  pub answered : (i : ℕ) → i < n → a (first + i) ≡ answer_of (get_or answers i no_field)
-  pub before_block : Written a first o l₀

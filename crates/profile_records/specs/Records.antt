@@ -2,25 +2,25 @@
 -- ones stay as they were. a i is the answer at station i, n the number of stations, o the list before. Definitions only.
 use Rattle.std.specs.Prelude.{◌≡◌, Bool, true, false, List, [], ◌++◌, ℕ, zero, suc, ◌*◌, ◌≤◌, Float, drop}
 use Rattle.lists.specs.First.{first}
-use Rattle.refusals.specs.Answer.{Answer, value, refused}
+use Rattle.std.specs.Prelude.{Ok, Err}
+use Rattle.refusals.specs.Answer.{Answer}
+use Rattle.refusals.specs.Causes.{Cause}
 use Rattle.refusals.specs.Causes.{first_of}
-use Rattle.refusals.specs.declared.Cause.{Cause}
-use Rattle.refusals.specs.declared.Cause.TheVariants.{None, Refused}
 use Rattle.newtonian.specs.Vectors.{field_numbers, field_size}
 use Rattle.newtonian.specs.declared.Newtonian.{Newtonian}
 
 -- what an answer is: its cause of refusal, whether it has one, and its numbers
 abbrev pub cause_of : Answer Newtonian → Cause
-cause_of (value x) = None
-cause_of (refused r) = Refused r
+cause_of (Ok x) = Ok tt
+cause_of (Err r) = Err r
 
 abbrev pub is_refused : Answer Newtonian → Bool
-is_refused (value x) = false
-is_refused (refused r) = true
+is_refused (Ok x) = false
+is_refused (Err r) = true
 
 abbrev pub numbers_of : Answer Newtonian → List Float
-numbers_of (value x) = field_numbers x
-numbers_of (refused r) = []
+numbers_of (Ok x) = field_numbers x
+numbers_of (Err r) = []
 
 -- the cause of the first station that is refused
 abbrev pub first_cause : (ℕ → Answer Newtonian) → ℕ → Cause
@@ -48,10 +48,10 @@ pub record Done (a : ℕ → Answer Newtonian) (n : ℕ) (o : List Float) (c : C
 
 -- the first k stations have values, and their records stand in l, which was o before
 pub record Written (a : ℕ → Answer Newtonian) (k : ℕ) (o l : List Float) : Type 0 where
-  pub none : first_cause a k ≡ None
+  pub none : first_cause a k ≡ Ok tt
   pub fields : l ≡ records a k ++ drop (field_size * k) o
 
 -- what follows once the cause c of the stations up to k is known: their records are written, or a call over any n stations, k or more, is done
 pub record Stored (a : ℕ → Answer Newtonian) (k : ℕ) (o : List Float) (c : Cause) (l : List Float) : Type 0 where
-  pub on : c ≡ None → Written a k o l
-  pub over : (n : ℕ) → k ≤ n → (c ≡ None → ⊥) → Done a n o c l
+  pub on : c ≡ Ok tt → Written a k o l
+  pub over : (n : ℕ) → k ≤ n → (c ≡ Ok tt → ⊥) → Done a n o c l

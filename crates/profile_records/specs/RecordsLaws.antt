@@ -18,9 +18,9 @@ use Rattle.lists.proofs.Firsts.{first-is, first_unique}
 use Rattle.lists.proofs.Numbers.{below?}
 use Rattle.lists.specs.First.{IsFirst}
 use Rattle.refusals.proofs.Causes.{both, each, from_each, stop}
-use Rattle.refusals.specs.Answer.{Answer, value, refused}
+use Rattle.std.specs.Prelude.{Ok, Err}
+use Rattle.refusals.specs.Answer.{Answer}
 use Rattle.refusals.specs.Causes.{first_of}
-use Rattle.refusals.specs.declared.Cause.TheVariants.{None, Refused}
 use Rattle.refusals.specs.declared.Refusal.{Refusal}
 use Rattle.refusals.specs.declared.Refusal.TheVariants.{TooManyEdges}
 use Rattle.newtonian.specs.Vectors.{field_numbers, field_size}
@@ -29,43 +29,43 @@ use Rattle.profile_records.specs.Records.{cause_of, is_refused, numbers_of, firs
 
 -- ---- one answer
 
-numbers-length : (b : Answer Newtonian) → cause_of b ≡ None → length (numbers_of b) ≡ field_size
+numbers-length : (b : Answer Newtonian) → cause_of b ≡ Ok tt → length (numbers_of b) ≡ field_size
 unfolding field_numbers
-numbers-length (value x) e = refl
-numbers-length (refused r) e = absurd (let z : ◌≡◌ {A = ℕ} 0 1 = cc in omega arith)
+numbers-length (Ok x) e = refl
+numbers-length (Err r) e = absurd (let z : ◌≡◌ {A = ℕ} 0 1 = cc in omega arith)
 
-has_value : (b : Answer Newtonian) → cause_of b ≡ None → is_refused b ≡ false
-has_value (value x) e = refl
-has_value (refused r) e = absurd (let z : ◌≡◌ {A = ℕ} 0 1 = cc in omega arith)
+has_value : (b : Answer Newtonian) → cause_of b ≡ Ok tt → is_refused b ≡ false
+has_value (Ok x) e = refl
+has_value (Err r) e = absurd (let z : ◌≡◌ {A = ℕ} 0 1 = cc in omega arith)
 
-no_cause : (b : Answer Newtonian) → is_refused b ≡ false → cause_of b ≡ None
-no_cause (value x) e = refl
-no_cause (refused r) e = absurd (let z : ◌≡◌ {A = ℕ} 0 1 = cc in omega arith)
+no_cause : (b : Answer Newtonian) → is_refused b ≡ false → cause_of b ≡ Ok tt
+no_cause (Ok x) e = refl
+no_cause (Err r) e = absurd (let z : ◌≡◌ {A = ℕ} 0 1 = cc in omega arith)
 
 -- the refusal of an answer that is refused
 record Refusing (b : Answer Newtonian) : Type 0 where
   pub by : Refusal
-  pub given : b ≡ refused by
+  pub given : b ≡ Err by
 
 refusing : (b : Answer Newtonian) → is_refused b ≡ true → Refusing b
-refusing (value x) e = absurd (let z : ◌≡◌ {A = ℕ} 0 1 = cc in omega arith)
-refusing (refused r) e = record { by = r; given = refl }
+refusing (Ok x) e = absurd (let z : ◌≡◌ {A = ℕ} 0 1 = cc in omega arith)
+refusing (Err r) e = record { by = r; given = refl }
 
 module _ (a : ℕ → Answer Newtonian) where
   -- ---- how many records are filled
 
-  pub records-length : (k : ℕ) → first_cause a k ≡ None → length (records a k) ≡ field_size * k
+  pub records-length : (k : ℕ) → first_cause a k ≡ Ok tt → length (records a k) ≡ field_size * k
   unfolding first_of records
   records-length zero e = refl
   records-length (suc k) e =
       let w = both (first_cause a k) (cause_of (a k)) e in
       length-append (records a k) (numbers_of (a k)) ∙ omega (arith, records-length k w.0, numbers-length (a k) w.1)
 
-  pub filled_is : (k n : ℕ) → k ≤ n → first_cause a k ≡ None → (k < n → is_refused (a k) ≡ true) → filled a n ≡ k
+  pub filled_is : (k n : ℕ) → k ≤ n → first_cause a k ≡ Ok tt → (k < n → is_refused (a k) ≡ true) → filled a n ≡ k
   unfolding filled
   filled_is k n l e h = first_unique (λ i. is_refused (a i)) n k (record { upto = l; before = λ i m. has_value (a i) (each k (λ j. cause_of (a j)) e i m); here = h })
 
-  pub filled-all : (n : ℕ) → first_cause a n ≡ None → filled a n ≡ n
+  pub filled-all : (n : ℕ) → first_cause a n ≡ Ok tt → filled a n ≡ n
   filled-all n e = filled_is n n (omega arith) e (λ h. absurd (omega arith))
 
   filled-first : (n : ℕ) → IsFirst (λ i. is_refused (a i)) n (filled a n)
@@ -75,10 +75,10 @@ module _ (a : ℕ → Answer Newtonian) where
   pub filled-value : (n j : ℕ) → j < filled a n → is_refused (a j) ≡ false
   filled-value n j h = (filled-first n).before j h
 
-  before-none : (n : ℕ) → first_cause a (filled a n) ≡ None
+  before-none : (n : ℕ) → first_cause a (filled a n) ≡ Ok tt
   before-none n = from_each (filled a n) (λ i. cause_of (a i)) (λ i h. no_cause (a i) (filled-value n i h))
 
-  pub filled-refused : (n i : ℕ) → ((j : ℕ) → j < n → (r : Refusal) → a j ≡ refused r → r ≡ TooManyEdges j) → first_cause a n ≡ Refused (TooManyEdges i)
+  pub filled-refused : (n i : ℕ) → ((j : ℕ) → j < n → (r : Refusal) → a j ≡ Err r → r ≡ TooManyEdges j) → first_cause a n ≡ Err (TooManyEdges i)
       → (filled a n ≡ i) × (i < n)
   filled-refused n i own e =
       let k = filled a n in
@@ -91,13 +91,13 @@ module _ (a : ℕ → Answer Newtonian) where
       (m, omega arith))
       (λ l.
       let m : k ≡ n = omega (arith, (filled-first n).upto) in
-      let s : first_cause a n ≡ None = rw m at (before-none n) in
+      let s : first_cause a n ≡ Ok tt = rw m at (before-none n) in
       absurd (let z : ◌≡◌ {A = ℕ} 0 1 = cc in omega arith))
       (below? k n)
 
   -- ---- each entry
 
-  records-at : (k : ℕ) → first_cause a k ≡ None → (j q : ℕ) → j < k → q < field_size → get_or (records a k) (field_size * j + q) nan ≡ get_or (numbers_of (a j)) q nan
+  records-at : (k : ℕ) → first_cause a k ≡ Ok tt → (j q : ℕ) → j < k → q < field_size → get_or (records a k) (field_size * j + q) nan ≡ get_or (numbers_of (a j)) q nan
   unfolding first_of records
   records-at zero e j q h l = absurd (omega arith)
   records-at (suc k) e j q h l =

@@ -22,7 +22,7 @@ fn read_once(reader: &mut impl Read, buf: &mut [u8]) -> io::Result<usize>
     Err(Error::from(ErrorKind::Interrupted))
 }
 
-// Reads to the end of the input or of buf, and answers how many bytes came.
+// Reads to the end of the input or of buf, and answers how many bytes came. A `while`, since a read decides how far the next begins.
 fn read_to_end(reader: &mut impl Read, buf: &mut [u8]) -> io::Result<usize> {
     let mut done = 0;
     while done < buf.len() {

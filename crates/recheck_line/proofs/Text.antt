@@ -12,10 +12,10 @@ use borrow.Rule.Slice.PartMut.{put_mid}
 use Rattle.std.proofs.lemmas.List.{drop-drop}
 use borrow.Author.Tests.{lt-ltb, le-ltb, lt-leb, le-leb}
 use Rattle.recheck_line.specs.Digits.{hex_digit_ascii, last_digits}
-use Rattle.std.specs.Prelude.{Option, Some, None}
+use Rattle.std.specs.Prelude.{Option, Some, None, Ok, Err}
 use Rattle.std.specs.Fmt as std
 use Rattle.std.proofs.lemmas.Fmt.{decimal_from_appends, length-decimal-le}
-use Rattle.refusals.specs.Answer.{Answer, value, refused}
+use Rattle.refusals.specs.Answer.{Answer}
 use Rattle.refusals.specs.declared.Refusal.TheVariants.{TooMany, WrongLength}
 use Rattle.refusals.specs.Numbers.{number_of, place_of}
 use Rattle.sheet.specs.Checker.{check_sheet}
@@ -114,17 +114,17 @@ line_of-most word x y h = omega (arith, line-length [] word x y (length (decimal
 
 line_most : (a : Answer (List ℕ)) → length (answer_line a) ≤ line_room
 unfolding answer_line
-line_most (value found) = line_of-most accepted_word (get_or found 0 0) (get_or found 1 0) (omega arith)
-line_most (refused r) = line_of-most refused_word (number_of r) (place_of r) (omega arith)
+line_most (Ok found) = line_of-most accepted_word (get_or found 0 0) (get_or found 1 0) (omega arith)
+line_most (Err r) = line_of-most refused_word (number_of r) (place_of r) (omega arith)
 
 recheck_most : (b : List ℕ) → length (recheck_line b) ≤ line_room
 unfolding recheck_line
-recheck_most b = line_most (cond (leb (length b) max_input) (check_sheet b) (refused TooMany))
+recheck_most b = line_most (cond (leb (length b) max_input) (check_sheet b) (Err TooMany))
 
 input_most : (i : Option ℕ) (b : List ℕ) → length (input_line i b) ≤ line_room
 unfolding input_line
 input_most (Some n) b = recheck_most (take n b)
-input_most None b = line_most (refused WrongLength)
+input_most None b = line_most (Err WrongLength)
 
 -- so a line of `recheck_line` ends within the buffer
 pub line_fits : (i : Option ℕ) (b : List ℕ) {n : ℕ} {new old : List ℕ} → LineAtStart n new old (input_line i b) → line_room ≤ length old → n ≤ length new
@@ -132,7 +132,7 @@ line_fits i b {old = old} h r = omega (arith, input_most i b, h.count, ap length
 
 -- ---- what `recheck` prints of the first n bytes
 
-pub long_line : (n : ℕ) (b : List ℕ) → max_input < n → max_input < length b → recheck_line (take n b) ≡ answer_line (refused TooMany)
+pub long_line : (n : ℕ) (b : List ℕ) → max_input < n → max_input < length b → recheck_line (take n b) ≡ answer_line (Err TooMany)
 unfolding recheck_line
 long_line n b h room =
     let long : max_input < length (take n b) = simp length-take (omega arith) in

@@ -1,8 +1,8 @@
 -- The line that `recheck` prints, in ASCII, as document 01 has it: `accepted KIND S` or `refused NUMBER PLACE`, and a newline. Definitions only.
-use Rattle.std.specs.Prelude.{◌≡◌, cond, List, [], ◌∷◌, ◌++◌, ℕ, zero, suc, ◌/◌, ltb, leb, length, get_or, take, Option, Some, None}
+use Rattle.std.specs.Prelude.{◌≡◌, cond, List, [], ◌∷◌, ◌++◌, ℕ, zero, suc, ◌/◌, ltb, leb, length, get_or, take, Option, Some, None, Ok, Err}
 use Rattle.std.proofs.lemmas.List.Edits.{sets}
 use Rattle.recheck_line.specs.Digits.{last_digits}
-use Rattle.refusals.specs.Answer.{Answer, value, refused}
+use Rattle.refusals.specs.Answer.{Answer}
 use Rattle.refusals.specs.declared.Refusal.TheVariants.{TooMany, WrongLength}
 use Rattle.refusals.specs.Numbers.{number_of, place_of}
 use Rattle.sheet.specs.Checker.{check_sheet}
@@ -29,20 +29,20 @@ line_of word x y = word ++ (decimal x ++ (32 ∷ (decimal y ++ (10 ∷ []))))
 
 -- of what the checker answers: the kind and S, or the refusal
 unfoldable pub answer_line : Answer (List ℕ) → List ℕ
-answer_line (value found) = line_of accepted_word (get_or found 0 0) (get_or found 1 0)
-answer_line (refused r) = line_of refused_word (number_of r) (place_of r)
+answer_line (Ok found) = line_of accepted_word (get_or found 0 0) (get_or found 1 0)
+answer_line (Err r) = line_of refused_word (number_of r) (place_of r)
 
 -- document 01: a sheet of up to 65,536 bytes; longer input prints `refused 2 0`
 abbrev pub max_input : ℕ
 max_input = 65536
 
 unfoldable pub recheck_line : List ℕ → List ℕ
-recheck_line b = answer_line (cond (leb (length b) max_input) (check_sheet b) (refused TooMany))
+recheck_line b = answer_line (cond (leb (length b) max_input) (check_sheet b) (Err TooMany))
 
 -- what `recheck` prints of its input, of which n bytes stand at the start of b. Where a read failed the sheet is not there whole: `refused 16 0`
 unfoldable pub input_line : Option ℕ → List ℕ → List ℕ
 input_line (Some n) b = recheck_line (take n b)
-input_line None b = answer_line (refused WrongLength)
+input_line None b = answer_line (Err WrongLength)
 
 -- ---- a line in a lent buffer
 

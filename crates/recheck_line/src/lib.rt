@@ -9,7 +9,7 @@ ghost use Rattle.recheck_line.specs.Line.{decimal, line_of, line_room, answer_li
 use itoa::Buffer;
 use recheck_input::MAX_INPUT;
 use refusals::Refusal;
-use sheet::Verdict;
+use sheet::Accepted;
 use std::io;
 use std::io::{Read, Write};
 
@@ -48,14 +48,15 @@ fn put_line(out: &mut [u8], word: &[u8], x: u32, y: u32) -> usize
     d + 1
 }
 
-// Writes the line of a verdict at the start of out, and answers how many bytes it has.
-pub fn verdict_line(v: Verdict, out: &mut [u8]) -> usize
+// Writes the line of a verdict at the start of out, and answers how many bytes it has. The room is the program's buffer, which is longer than a line, so that it is asked
+// for and is no type.
+pub fn verdict_line(verdict: Result<Accepted, Refusal>, out: &mut [u8]) -> usize
     requires { line_room ≤ length out.old }
-    ensures { LineAtStart result out.new out.old (answer_line (verdict_answer v)) }
+    ensures { LineAtStart result out.new out.old (answer_line (verdict_answer verdict)) }
 {
-    match v {
-        Verdict::Accepted(kind, stations) => put_line(out, b"accepted ", kind, stations),
-        Verdict::Refused(r) => put_line(out, b"refused ", refusals::number(r), refusals::place(r)),
+    match verdict {
+        Ok(accepted) => put_line(out, b"accepted ", accepted.kind, accepted.stations),
+        Err(r) => put_line(out, b"refused ", r.number(), r.place()),
     }
 }
 
@@ -66,7 +67,7 @@ fn bytes_line(bytes: &[u8], n: usize, out: &mut [u8]) -> usize
     ensures { LineAtStart result out.new out.old (recheck_line (take n bytes.now)) }
 {
     if MAX_INPUT < n {
-        return verdict_line(Verdict::Refused(Refusal::TooMany), out);
+        return verdict_line(Err(Refusal::TooMany), out);
     }
     verdict_line(checker::check_sheet(&bytes[..n]), out)
 }
@@ -79,7 +80,7 @@ pub fn recheck_line(buffer: &[u8; MAX_INPUT + 1], input: Option<usize>, out: &mu
 {
     match input {
         Some(n) => bytes_line(buffer, n, out),
-        None => verdict_line(Verdict::Refused(Refusal::WrongLength), out),
+        None => verdict_line(Err(Refusal::WrongLength), out),
     }
 }
 

@@ -4,7 +4,10 @@
 ghost use Rattle.std.specs.Prelude.{◌≡◌};
 ghost use Rattle.refusals.specs.Numbers.{number_of, place_of};
 
-#[derive(Clone, Copy)]
+use std::error::Error;
+use std::fmt;
+
+#[derive(Clone, Copy, Debug, PartialEq, Eq)]
 pub enum Refusal {
     // 1: a list's length is not a multiple of 3, the kind is not 1 or 2, or kind 2 comes without V = 2 and F = 0
     Malformed,
@@ -48,65 +51,70 @@ pub enum Refusal {
     WrongRow(u32),
 }
 
-// What a test for refusals finds: the first cause that holds, or none.
-#[derive(Clone, Copy)]
-pub enum Cause {
-    None,
-    Refused(Refusal),
-}
+impl Refusal {
+    // The refusal's number in document 01, whose table this is: some cases carry a place, so that no cast gives it.
+    pub fn number(self) -> u32
+        ensures { result ≡ number_of self }
+    {
+        match self {
+            Refusal::Malformed => 1,
+            Refusal::TooMany => 2,
+            Refusal::OutOfLimits => 3,
+            Refusal::NoSuchVertex(_) => 4,
+            Refusal::Flipped(_, _) => 5,
+            Refusal::Open(_, _) => 6,
+            Refusal::Degenerate(_) => 7,
+            Refusal::Inverted => 8,
+            Refusal::TooThin => 9,
+            Refusal::TooDeep(_) => 10,
+            Refusal::TooManyEdges(_) => 11,
+            Refusal::TooShort => 12,
+            Refusal::NotFinite(_) => 13,
+            Refusal::OutsideDomain => 14,
+            Refusal::TooManyRounds => 15,
+            Refusal::WrongLength => 16,
+            Refusal::WrongOrder => 17,
+            Refusal::WrongMate => 18,
+            Refusal::WrongVolume => 19,
+            Refusal::WrongRow(_) => 20,
+        }
+    }
 
-// The refusal's number in document 01.
-pub fn number(r: Refusal) -> u32
-    ensures { result ≡ number_of r }
-{
-    match r {
-        Refusal::Malformed => 1,
-        Refusal::TooMany => 2,
-        Refusal::OutOfLimits => 3,
-        Refusal::NoSuchVertex(_) => 4,
-        Refusal::Flipped(_, _) => 5,
-        Refusal::Open(_, _) => 6,
-        Refusal::Degenerate(_) => 7,
-        Refusal::Inverted => 8,
-        Refusal::TooThin => 9,
-        Refusal::TooDeep(_) => 10,
-        Refusal::TooManyEdges(_) => 11,
-        Refusal::TooShort => 12,
-        Refusal::NotFinite(_) => 13,
-        Refusal::OutsideDomain => 14,
-        Refusal::TooManyRounds => 15,
-        Refusal::WrongLength => 16,
-        Refusal::WrongOrder => 17,
-        Refusal::WrongMate => 18,
-        Refusal::WrongVolume => 19,
-        Refusal::WrongRow(_) => 20,
+    // The place that `recheck` prints beside the number: the face or the station, else 0.
+    pub fn place(self) -> u32
+        ensures { result ≡ place_of self }
+    {
+        match self {
+            Refusal::NoSuchVertex(face) | Refusal::Degenerate(face) => face,
+            Refusal::TooDeep(station)
+            | Refusal::TooManyEdges(station)
+            | Refusal::NotFinite(station)
+            | Refusal::WrongRow(station) => station,
+            Refusal::Malformed
+            | Refusal::TooMany
+            | Refusal::OutOfLimits
+            | Refusal::Flipped(_, _)
+            | Refusal::Open(_, _)
+            | Refusal::Inverted
+            | Refusal::TooThin
+            | Refusal::TooShort
+            | Refusal::OutsideDomain
+            | Refusal::TooManyRounds
+            | Refusal::WrongLength
+            | Refusal::WrongOrder
+            | Refusal::WrongMate
+            | Refusal::WrongVolume => 0,
+        }
     }
 }
 
-// The place that `recheck` prints beside the number: the face or the station, else 0.
-pub fn place(r: Refusal) -> u32
-    ensures { result ≡ place_of r }
-{
-    match r {
-        Refusal::Malformed => 0,
-        Refusal::TooMany => 0,
-        Refusal::OutOfLimits => 0,
-        Refusal::NoSuchVertex(face) => face,
-        Refusal::Flipped(_, _) => 0,
-        Refusal::Open(_, _) => 0,
-        Refusal::Degenerate(face) => face,
-        Refusal::Inverted => 0,
-        Refusal::TooThin => 0,
-        Refusal::TooDeep(station) => station,
-        Refusal::TooManyEdges(station) => station,
-        Refusal::TooShort => 0,
-        Refusal::NotFinite(station) => station,
-        Refusal::OutsideDomain => 0,
-        Refusal::TooManyRounds => 0,
-        Refusal::WrongLength => 0,
-        Refusal::WrongOrder => 0,
-        Refusal::WrongMate => 0,
-        Refusal::WrongVolume => 0,
-        Refusal::WrongRow(station) => station,
+// As `recheck` prints it: the number, then the place.
+impl fmt::Display for Refusal {
+    fn fmt<W: fmt::Write>(&self, f: &mut fmt::Formatter<W>) -> fmt::Result {
+        let number = self.number();
+        let place = self.place();
+        write!(f, "refused {number} {place}")
     }
 }
+
+impl Error for Refusal {}

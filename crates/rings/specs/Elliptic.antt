@@ -6,7 +6,8 @@ use Rattle.doubles.specs.Rounded.{◌⊕◌, ◌⊖◌, ◌⊗◌, ◌⊘◌}
 use Rattle.doubles.specs.Constants.{0·0, 0·5, 1·0, 2·0, ε, π/2}
 use Rattle.roots.specs.Root.{Root}
 use Rattle.refusals.specs.Causes.{unless}
-use Rattle.refusals.specs.Answer.{Answer, value, or_answer}
+use Rattle.std.specs.Prelude.{Ok}
+use Rattle.refusals.specs.Answer.{Answer, or_answer}
 use Rattle.refusals.specs.declared.Refusal.TheVariants.{OutsideDomain}
 use Rattle.carlson.specs.Rounds.{rounds}
 use Rattle.rings.specs.declared.Mean.{Mean}
@@ -40,4 +41,4 @@ elliptic m =
 
 -- the public call, refused by 14 unless 0 ≤ m < 1
 unfoldable pub complete_elliptic : Float → Answer Complete
-complete_elliptic m = or_answer (unless (le 0·0 m && lt m 1·0) OutsideDomain) (value (elliptic m))
+complete_elliptic m = or_answer (unless (le 0·0 m && lt m 1·0) OutsideDomain) (Ok (elliptic m))

@@ -8,7 +8,8 @@ use Rattle.doubles.specs.Constants.{0·0, 0·5, 1·0, 2·0, 4·0, 9·0, 24·0, �
 use Rattle.doubles.specs.Magnitude.{within_limits}
 use Rattle.roots.specs.Root.{Root}
 use Rattle.refusals.specs.Causes.{or_else, unless}
-use Rattle.refusals.specs.Answer.{Answer, value, or_answer}
+use Rattle.std.specs.Prelude.{Ok}
+use Rattle.refusals.specs.Answer.{Answer, or_answer}
 use Rattle.refusals.specs.declared.Refusal.TheVariants.{OutOfLimits, OutsideDomain}
 use Rattle.rings.specs.Constants.{9e-8, 16·0, 72·0}
 use Rattle.rings.specs.Elliptic.{elliptic}
@@ -77,4 +78,4 @@ ring_within_limits R ρ z = within_limits R && within_limits ρ && within_limits
 -- the public call, refused by 3, and by 14 outside the domain
 unfoldable pub ring : Float → Float → Float → Answer RingAverage
 ring R ρ z =
-    or_answer (or_else (unless (ring_within_limits R ρ z) OutOfLimits) (unless (ring_in_domain R ρ z) OutsideDomain)) (value (ring_at R ρ z))
+    or_answer (or_else (unless (ring_within_limits R ρ z) OutOfLimits) (unless (ring_in_domain R ρ z) OutsideDomain)) (Ok (ring_at R ρ z))

@@ -1,14 +1,12 @@
-// The complete elliptic integrals, Bulirsch's cel, and the average of 1/r over a ring.
+// The complete elliptic integrals, Bulirsch's cel, and the average of 1/r over a ring. Arguments stay as the papers write them, one by one; what the
+// average works with is a `RingStation`.
 #![tactic(auto)]
 
 ghost use Rattle.std.specs.Prelude.{◌≡◌};
-ghost use Rattle.carlson.specs.Answers.{integral_answer};
-ghost use Rattle.rings.specs.Answers.{complete_answer, ring_answer};
 ghost use Rattle.rings.specs.Elliptic.{next_mean, mean_test, elliptic, complete_elliptic};
 ghost use Rattle.rings.specs.Cel.{four_finite, cel};
 ghost use Rattle.rings.specs.Ring.{far_squared, near_squared, ring_parameter, near_axis, off_axis, ∂ρ, ring_at, ring_within_limits, ring};
 
-use carlson::Integral;
 use refusals::Refusal;
 
 // The Rust's loop ends after 64 rounds and refuses nothing.
@@ -31,12 +29,6 @@ pub struct Complete {
     pub e: f64,
 }
 
-#[derive(Clone, Copy)]
-pub enum CompleteIntegrals {
-    Values(Complete),
-    Refused(Refusal),
-}
-
 // The average of 1/r over a ring, and its derivatives by ρ and z.
 #[derive(Clone, Copy)]
 pub struct RingAverage {
@@ -45,15 +37,10 @@ pub struct RingAverage {
     pub dz: f64,
 }
 
-#[derive(Clone, Copy)]
-pub enum RingAnswer {
-    Value(RingAverage),
-    Refused(Refusal),
-}
-
 // ---- K and E
 
 // One round of the mean.
+#[tactic(auto, unfolding(crate::specs::Elliptic::next_mean))]
 fn next_mean(s: Mean) -> Mean
     ensures { result ≡ next_mean s }
 {
@@ -68,6 +55,7 @@ fn next_mean(s: Mean) -> Mean
     }
 }
 
+#[tactic(auto, unfolding(crate::specs::Elliptic::mean_test))]
 fn mean_test(s: Mean) -> bool
     ensures { result ≡ mean_test s }
 {
@@ -96,17 +84,19 @@ pub fn elliptic(m: f64) -> Complete
 }
 
 // The complete elliptic integrals K(m) and E(m), for 0 ≤ m < 1: refused by 14 outside that domain.
-pub fn complete_elliptic(m: f64) -> CompleteIntegrals
-    ensures { complete_answer result ≡ complete_elliptic m }
+#[tactic(auto, unfolding(crate::specs::Elliptic::complete_elliptic))]
+pub fn complete_elliptic(m: f64) -> Result<Complete, Refusal>
+    ensures { result ≡ complete_elliptic m }
 {
     if (0.0 <= m) & (m < 1.0) {
-        return CompleteIntegrals::Values(elliptic(m));
+        return Ok(elliptic(m));
     }
-    CompleteIntegrals::Refused(Refusal::OutsideDomain)
+    Err(Refusal::OutsideDomain)
 }
 
 // ---- cel
 
+#[tactic(auto, unfolding(crate::specs::Cel::four_finite))]
 fn four_finite(kc: f64, p: f64, a: f64, b: f64) -> bool
     ensures { result ≡ four_finite kc p a b }
 {
@@ -114,18 +104,20 @@ fn four_finite(kc: f64, p: f64, a: f64, b: f64) -> bool
 }
 
 // Bulirsch's cel(k_c, p, a, b), for finite arguments and p > 0: refused by 14 outside that domain.
-pub fn cel(kc: f64, p: f64, a: f64, b: f64) -> Integral
-    ensures { integral_answer result ≡ cel kc p a b }
+#[tactic(auto, unfolding(crate::specs::Cel::cel))]
+pub fn cel(kc: f64, p: f64, a: f64, b: f64) -> Result<f64, Refusal>
+    ensures { result ≡ cel kc p a b }
 {
     if four_finite(kc, p, a, b) & (0.0 < p) {
-        return Integral::Value(special_bulirsch::cel_of(kc, p, a, b));
+        return Ok(special_bulirsch::cel_of(kc, p, a, b));
     }
-    Integral::Refused(Refusal::OutsideDomain)
+    Err(Refusal::OutsideDomain)
 }
 
 // ---- the ring
 
 // The derivative by ρ near the axis.
+#[tactic(auto, unfolding(crate::specs::Ring::near_axis))]
 fn near_axis(radius: f64, rho: f64, z: f64) -> f64
     ensures { result ≡ near_axis radius rho z }
 {
@@ -169,6 +161,7 @@ impl RingStation {
     }
 
     // The derivative by ρ away from the axis.
+    #[tactic(auto, unfolding(crate::specs::Ring::off_axis))]
     fn off_axis(self) -> f64
         ensures { result ≡ off_axis self.radius self.rho self.z }
     {
@@ -192,6 +185,7 @@ impl RingStation {
         self.off_axis()
     }
 
+    #[tactic(auto, unfolding(crate::specs::Ring::ring_at))]
     fn average(self) -> RingAverage
         ensures { result ≡ ring_at self.radius self.rho self.z }
     {
@@ -205,6 +199,7 @@ impl RingStation {
     }
 }
 
+#[tactic(auto, unfolding(crate::specs::Ring::ring_within_limits))]
 fn ring_within_limits(radius: f64, rho: f64, z: f64) -> bool
     ensures { result ≡ ring_within_limits radius rho z }
 {
@@ -213,15 +208,16 @@ fn ring_within_limits(radius: f64, rho: f64, z: f64) -> bool
 
 // The average of 1/r over a ring, seen from (ρ, z), and its gradient: refused by 3, and by 14 unless
 // radius > 0, rho ≥ 0, and d > 0 and m < 1 as computed.
-pub fn ring(radius: f64, rho: f64, z: f64) -> RingAnswer
-    ensures { ring_answer result ≡ ring radius rho z }
+#[tactic(auto, unfolding(crate::specs::Ring::ring, crate::specs::Ring::ring_in_domain))]
+pub fn ring(radius: f64, rho: f64, z: f64) -> Result<RingAverage, Refusal>
+    ensures { result ≡ ring radius rho z }
 {
     if ring_within_limits(radius, rho, z) {
         let at = RingStation::new(radius, rho, z);
         if (0.0 < radius) & (0.0 <= rho) & (0.0 < at.d) & (at.m < 1.0) {
-            return RingAnswer::Value(at.average());
+            return Ok(at.average());
         }
-        return RingAnswer::Refused(Refusal::OutsideDomain);
+        return Err(Refusal::OutsideDomain);
     }
-    RingAnswer::Refused(Refusal::OutOfLimits)
+    Err(Refusal::OutOfLimits)
 }

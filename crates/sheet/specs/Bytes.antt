@@ -1,6 +1,7 @@
 -- The sheet, byte by byte, as document 01 lists its parts: vertices 24V bytes; faces 12F; order list 12F; mates 12F; stations 24S; rows 64S; trailer 80. Definitions only.
 use Rattle.std.specs.Prelude.{cond, List, [], ◌∷◌, ◌++◌, ℕ, zero, suc, ◌+◌, ◌*◌, Float}
-use Rattle.refusals.specs.Answer.{Answer, value, refused}
+use Rattle.std.specs.Prelude.{Ok, Err}
+use Rattle.refusals.specs.Answer.{Answer}
 use Rattle.newtonian.specs.Vectors.{vector_numbers}
 use Rattle.mesh_orders.specs.Order.{order_list}
 use Rattle.mesh_orders.specs.Mates.{mates}
@@ -40,8 +41,8 @@ module _ (s : SheetInput) where
 
   -- a refused row has no numbers
   abbrev pub numbers_of : Answer Row → List Float
-  numbers_of (value r) = row_numbers s.kind r
-  numbers_of (refused r) = []
+  numbers_of (Ok r) = row_numbers s.kind r
+  numbers_of (Err r) = []
 
   -- the rows of the first n stations, one after the other
   unfoldable pub rows : ℕ → List Float

@@ -2,11 +2,11 @@
 use Rattle.std.specs.Prelude.{Bool, true, false, ◌&&◌, ◌||◌, cond, List, [], ◌∷◌, ℕ, ◌+◌, ◌*◌, ◌-◌, eqb, ltb, leb, length, get_or, take, drop}
 use Rattle.std.specs.Float.{binary64}
 use Rattle.std.specs.Float.Ieee.{to_bits}
-use Rattle.refusals.specs.Answer.{Answer, value, refused, or_answer}
+use Rattle.std.specs.Prelude.{Ok, Err}
+use Rattle.refusals.specs.Answer.{Answer, or_answer}
+use Rattle.refusals.specs.Causes.{Cause}
 use Rattle.refusals.specs.Causes.{or_else, unless, first_of}
 use Rattle.refusals.specs.declared.Refusal.TheVariants.{WrongLength, WrongOrder, WrongMate, WrongVolume, WrongRow}
-use Rattle.refusals.specs.declared.Cause.{Cause}
-use Rattle.refusals.specs.declared.Cause.TheVariants.{None, Refused}
 use Rattle.mesh_orders.specs.Edges.{edge, reverse}
 use Rattle.newtonian.specs.declared.Vector.{Vector}
 use Rattle.mesh.specs.Surface.{vertex}
@@ -16,14 +16,13 @@ use Rattle.sheet_rows.specs.Kinds.{is_mesh, row_width}
 use Rattle.sheet.specs.Input.{SheetInput, station_count, row_at}
 use Rattle.sheet.specs.Bytes.{trailer_length, pointer_of, volume, numbers_of}
 use Rattle.sheet.specs.Writer.{malformed, too_many, out_of_limits, no_such_vertex, too_thin, station_cause}
-use Rattle.sheet.specs.declared.Verdict.{Verdict}
-use Rattle.sheet.specs.declared.Verdict as verdicts
+use Rattle.sheet.specs.declared.Accepted.{Accepted}
 
--- ---- the answer of each case of `Verdict`: the kind and S, or the refusal
+-- ---- the answer to a check of a sheet: the kind and S, or the refusal
 
-abbrev pub verdict_answer : Verdict → Answer (List ℕ)
-verdict_answer (verdicts.TheVariants.Accepted kind s) = value (kind ∷ s ∷ [])
-verdict_answer (verdicts.TheVariants.Refused r) = refused r
+abbrev pub verdict_answer : Answer Accepted → Answer (List ℕ)
+verdict_answer (Ok a) = Ok (a.kind ∷ a.stations ∷ [])
+verdict_answer (Err r) = Err r
 
 -- ---- causes that do not read the sheet themselves: f is its face list, o its order list and m its mates
 
@@ -54,8 +53,8 @@ same_numbers (x ∷ xs) (y ∷ ys) = eqb x y && same_numbers xs ys
 
 -- nothing, where a cause refuses
 abbrev pub unless_refused : Cause → List ℕ → List ℕ
-unless_refused None part = part
-unless_refused (Refused r) part = []
+unless_refused (Ok _) part = part
+unless_refused (Err r) part = []
 
 module _ (b : List ℕ) where
   -- ---- the trailer, the last 80 bytes
@@ -157,7 +156,7 @@ module _ (b : List ℕ) where
   -- ---- the answer: the first of these causes, or the kind and S that stand in the trailer
 
   unfoldable pub check_sheet : Answer (List ℕ)
-  check_sheet = or_answer checker_cause (value (kind_in ∷ stations_in ∷ []))
+  check_sheet = or_answer checker_cause (Ok (kind_in ∷ stations_in ∷ []))
 
   -- ---- for readers
 

@@ -7,8 +7,7 @@ use Rattle.std.specs.Float.Ieee.Scale.{finite}
 use Rattle.doubles.specs.Constants.{0·0}
 use Rattle.doubles.specs.Rounded.{◌⊖◌}
 use Rattle.doubles.specs.Magnitude.{within_limits}
-use Rattle.refusals.specs.Answer.{value}
-use Rattle.refusals.specs.declared.Cause.TheVariants.{None}
+use Rattle.std.specs.Prelude.{Ok}
 use Rattle.newtonian.specs.Vectors.{vector_numbers}
 use Rattle.newtonian.specs.declared.Vector.{Vector}
 use Rattle.lists.specs.Count.{Below}
@@ -39,7 +38,7 @@ AllInLimits xs = (i : ℕ) → i < length xs → within_limits (get_or xs i nan)
 -- the definitions give a field at station i, and all numbers of its row are finite
 pub record FiniteRow (s : SheetInput) (i : ℕ) : Type 0 where
   pub row : Row
-  pub given : row_at s i ≡ value row
+  pub given : row_at s i ≡ Ok row
   pub numbers : (j : ℕ) → j < length (row_numbers s.kind row) → finite (get_or (row_numbers s.kind row) j nan) ≡ true
 
 -- a prism's side from lo to hi is not below 10⁻⁶
@@ -89,7 +88,7 @@ pub record NoCause (s : SheetInput) (w o : ℕ) : Type 0 where
 -- the definitions give a row at station i, and its bits are what the sheet b has there
 pub record RowStored (b : List ℕ) (i : ℕ) : Type 0 where
   pub row : Row
-  pub given : row_at (parse b) i ≡ value row
+  pub given : row_at (parse b) i ≡ Ok row
   pub stored : take (row_length b) (drop (row_start b i) b) ≡ pack 8 (bits (row_numbers (kind_in b) row))
 
 -- b was accepted with kind k and S = n
@@ -136,4 +135,4 @@ pub record Kept (s : SheetInput) (b : List ℕ) : Type 0 where
       ≡ pack 4 (s.kind ∷ vertex_count s ∷ face_count s ∷ station_count s ∷ []) ++ pack 8 (bits (vector_numbers s.magnetisation)) ++ pack 8 (bits (vector_numbers s.ambient))
   pub body : take (24 * vertex_count s + 12 * face_count s) b ≡ pack 8 (bits s.vertices) ++ pack 4 s.faces
   pub stations : take (24 * station_count s) (drop (stations_start b) b) ≡ pack 8 (bits s.stations)
-  pub accepted : checker_cause b ≡ None
+  pub accepted : checker_cause b ≡ Ok tt

@@ -5,8 +5,8 @@ use Rattle.refusals.specs.Numbers.{number_of}
 use Rattle.refusals.specs.Causes.{or_else, unless, first_of}
 use Rattle.refusals.specs.declared.Refusal.{Refusal}
 use Rattle.refusals.specs.declared.Refusal.TheVariants.{Malformed, TooMany, TooShort, OutOfLimits, TooThin}
-use Rattle.refusals.specs.declared.Cause.{Cause}
-use Rattle.refusals.specs.declared.Cause.TheVariants.{None, Refused}
+use Rattle.std.specs.Prelude.{Ok, Err}
+use Rattle.refusals.specs.Causes.{Cause}
 use Rattle.lists.specs.Count.{count}
 use Rattle.mesh_orders.specs.Order.{order_list}
 use Rattle.newtonian.specs.Vectors.{vector_within_limits}
@@ -65,5 +65,5 @@ module _ (s : SheetInput) where
 
   -- the bytes of out, which were o; those past the sheet never change
   unfoldable pub out_after : Cause → List ℕ → List ℕ
-  out_after None o = sheet_bytes s ++ drop (sheet_size s) o
-  out_after (Refused r) o = cond (zeroes_out r) (replicate (sheet_size s) 0 ++ drop (sheet_size s) o) o
+  out_after (Ok _) o = sheet_bytes s ++ drop (sheet_size s) o
+  out_after (Err r) o = cond (zeroes_out r) (replicate (sheet_size s) 0 ++ drop (sheet_size s) o) o

@@ -1,8 +1,8 @@
-// The result sheet: what it is made from, the lengths of its parts, and its verdict.
+// The result sheet: what it is made from, the lengths of its parts, and what is told of an accepted one.
 #![tactic(auto)]
 
 use newtonian::Vector;
-use refusals::Refusal;
+use std::fmt;
 
 // The bytes of a sheet's trailer, of a vertex, of a face's corners, of a face with its entries of the order list and of the mates, and of a station.
 pub const TRAILER_LENGTH: usize = 80;
@@ -26,9 +26,16 @@ pub struct Source<'a> {
     pub stations: &'a [f64],
 }
 
-// What `check_sheet` answers: accepted, with the kind and S that stand in the trailer, or the first cause of refusal.
-#[derive(Clone, Copy)]
-pub enum Verdict {
-    Accepted(u32, u32),
-    Refused(Refusal),
+// What `check_sheet` answers of a sheet that it accepts: the kind and S that stand in the trailer.
+#[derive(Clone, Copy, Debug, PartialEq, Eq)]
+pub struct Accepted {
+    pub kind: u32,
+    pub stations: u32,
+}
+
+// As `recheck` prints it.
+impl fmt::Display for Accepted {
+    fn fmt<W: fmt::Write>(&self, f: &mut fmt::Formatter<W>) -> fmt::Result {
+        write!(f, "accepted {} {}", self.kind, self.stations)
+    }
 }

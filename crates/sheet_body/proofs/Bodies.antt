@@ -5,15 +5,16 @@ use mathlib.Core.List.{List, [], ◌∷◌, ◌++◌}
 use Prim.Native.Nat.{ℕ, ◌*◌}
 use native.Mathlib.Omega.{arith}
 use lib.ListN.{length, drop}
+use lib.Ieee.{Float}
 use Rattle.refusals.specs.Causes.{unless}
 use Rattle.refusals.specs.declared.Refusal.TheVariants.{TooThin}
-use Rattle.refusals.specs.declared.Cause.{Cause}
+use Rattle.refusals.specs.Answer.{Answer}
+use Rattle.refusals.specs.Causes.{Cause}
 use Rattle.newtonian.specs.declared.Vector.{Vector}
 use Rattle.mesh_orders.specs.Order.{order_list}
 use Rattle.mesh.specs.Surface.{vertex}
 use Rattle.mesh.specs.Surface as surface
 use Rattle.mesh.specs.Check.{surface_cause, solid_of, leaves_work, work_after}
-use Rattle.mesh.specs.declared.Solid.{Solid}
 use Rattle.mesh_check.specs.CheckedMates.{mates_after}
 use Rattle.mesh_check.proofs.MatesPut.{no_bytes}
 use Rattle.prism.specs.Prism.{sides_within_limits, prism_volume}
@@ -36,7 +37,7 @@ thin_work true f w n = sym (no_order f w n)
 thin_work false f w n = refl
 
 module _ (s : SheetInput) where
-  pub mesh_checked : {w m p q : List ℕ} {r : Solid} → is_mesh s.kind ≡ true → r ≡ solid_of (surface_cause s.vertices s.faces) (surface.volume s.vertices s.faces)
+  pub mesh_checked : {w m p q : List ℕ} {r : (Answer Float)} → is_mesh s.kind ≡ true → r ≡ solid_of (surface_cause s.vertices s.faces) (surface.volume s.vertices s.faces)
       → p ≡ work_after (surface_cause s.vertices s.faces) s.faces w → q ≡ mates_after (surface_cause s.vertices s.faces) s.faces m → BodyChecked s w m r p q
   unfolding volume
   mesh_checked {w = w} {m = m} e a h k = record {
@@ -60,7 +61,7 @@ module _ (s : SheetInput) where
     unfolding volume
     measured = rw e
 
-    pub prism_checked : (w m : List ℕ) {r : Solid} → length m ≡ 4 * length s.faces → r ≡ solid_of (unless (sides_within_limits lo hi) TooThin) (prism_volume lo hi) → BodyChecked s w m r w m
+    pub prism_checked : (w m : List ℕ) {r : (Answer Float)} → length m ≡ 4 * length s.faces → r ≡ solid_of (unless (sides_within_limits lo hi) TooThin) (prism_volume lo hi) → BodyChecked s w m r w m
     prism_checked w m z a = record {
       answer = a ∙ ap₂ solid_of thin measured;
       work = thin_work (sides_within_limits lo hi) s.faces w n ∙ ap (λ (c : Cause). work_after c s.faces w) thin;

@@ -12,26 +12,28 @@ ghost use Rattle.sheet_rows.specs.Kinds.{is_mesh};
 ghost use Rattle.sheet.specs.Input.{source_input};
 ghost use Rattle.sheet_body.specs.BodyChecked.{BodyChecked};
 
-use mesh::Solid;
+use prism_corner_sums::Bounds;
 use refusals::Refusal;
 use sheet::Source;
 
 // Cause 9 of a prism, or else its volume.
-pub fn check_prism(verts: &[f64]) -> Solid
+pub fn check_prism(verts: &[f64]) -> Result<f64, Refusal>
     requires { 6 ≤ length verts.now }
     ensures { result ≡ solid_of (unless (sides_within_limits (vertex verts.now 0) (vertex verts.now 1)) TooThin) (prism_volume (vertex verts.now 0) (vertex verts.now 1)) }
 {
-    let lo = mesh::surface::vertex(verts, 0);
-    let hi = mesh::surface::vertex(verts, 1);
-    if prism::sides_within_limits(lo, hi) {
-        return Solid::Volume(prism::volume(lo, hi));
+    let bounds = Bounds {
+        lo: mesh::surface::vertex(verts, 0),
+        hi: mesh::surface::vertex(verts, 1),
+    };
+    if prism::sides_within_limits(bounds) {
+        return Ok(prism::volume(bounds));
     }
-    Solid::Refused(Refusal::TooThin)
+    Err(Refusal::TooThin)
 }
 
 // The volume, or the cause of refusal; work holds the order list afterwards, but after 4 and 9, and the bytes of mates, four to each edge use, the mates where nothing is refused.
 // Fields and stations play no part.
-pub fn check_body(source: &Source, work: &mut [u32], mates: &mut [u8]) -> Solid
+pub fn check_body(source: &Source, work: &mut [u32], mates: &mut [u8]) -> Result<f64, Refusal>
     requires { let s = source_input source.now in
         Counted s.vertices s.faces (length work.old) × (is_mesh s.kind ≡ false → (length s.vertices ≡ 6) × (length s.faces ≡ 0)) × (length mates.old ≡ 4 * length s.faces) }
     ensures { BodyChecked (source_input source.now) work.old mates.old result work.new mates.new }

@@ -9,8 +9,8 @@ use Rattle.std.proofs.Math.Numerals.{add-one}
 use Rattle.std.proofs.Math.Seq.{take-add, drop-drop}
 use borrow.Author.Tests.{lt-ltb, le-ltb}
 use Rattle.refusals.specs.declared.Refusal.{Refusal}
-use Rattle.refusals.specs.declared.Cause.{Cause}
-use Rattle.refusals.specs.declared.Cause.TheVariants.{None, Refused}
+use Rattle.std.specs.Prelude.{Ok, Err}
+use Rattle.refusals.specs.Causes.{Cause}
 use Rattle.refusals.proofs.Causes.{both}
 use Rattle.lists.proofs.Numbers.{below?}
 use Rattle.sheet.specs.Writer.{malformed, too_many}
@@ -51,7 +51,7 @@ module _ (b : List ℕ) where
 
   -- ---- the parts, where 16, 1 and 2 let the bytes through
 
-  module _ (e : opening_cause b ≡ None) where
+  module _ (e : opening_cause b ≡ Ok tt) where
     pub counted : row_count b ≡ stations_in b
     unfolding row_count
     counted = rw e
@@ -77,7 +77,7 @@ module _ (b : List ℕ) where
     unfolding rows_part
     all-joined = ap (joined_parts b) counted ∙ rw e (joined_is (stations_in b) (omega arith))
 
-  accepted : checker_cause b ≡ None → row_count b ≡ stations_in b
+  accepted : checker_cause b ≡ Ok tt → row_count b ≡ stations_in b
   unfolding checker_cause opening_cause
   accepted e =
       let l = both (wrong_length b) _ e in
@@ -87,27 +87,27 @@ module _ (b : List ℕ) where
 
   -- ---- and where one of them refuses
 
-  pub no_count : (r : Refusal) → opening_cause b ≡ Refused r → row_count b ≡ 0
+  pub no_count : (r : Refusal) → opening_cause b ≡ Err r → row_count b ≡ 0
   unfolding row_count
   no_count r e = rw e
 
-  nothing_joined : (r : Refusal) → opening_cause b ≡ Refused r → joined_parts b (row_count b) ≡ rows_part b
+  nothing_joined : (r : Refusal) → opening_cause b ≡ Err r → joined_parts b (row_count b) ≡ rows_part b
   unfolding joined_parts
   nothing_joined r e = rw (no_count r e) (no_rows b r e)
 
   -- ---- in both cases
 
   full : (c : Cause) → opening_cause b ≡ c → (n : ℕ) → n < row_count b → length (row_part b n) ≡ row_length b
-  full None e n h = full-row e n (omega (arith, counted e))
-  full (Refused r) e n h = absurd (omega (arith, no_count r e))
+  full (Ok _) e n h = full-row e n (omega (arith, counted e))
+  full (Err r) e n h = absurd (omega (arith, no_count r e))
 
   past : (c : Cause) → opening_cause b ≡ c → (n : ℕ) → row_count b ≤ n → row_part b n ≡ []
-  past None e n h = sym (past_rows b n e (omega (arith, counted e)))
-  past (Refused r) e n h = sym (no_row b n r e)
+  past (Ok _) e n h = sym (past_rows b n e (omega (arith, counted e)))
+  past (Err r) e n h = sym (no_row b n r e)
 
   joined : (c : Cause) → opening_cause b ≡ c → joined_parts b (row_count b) ≡ rows_part b
-  joined None e = all-joined e
-  joined (Refused r) e = nothing_joined r e
+  joined (Ok _) e = all-joined e
+  joined (Err r) e = nothing_joined r e
 
   pub past_last : (n : ℕ) → row_count b ≤ n → row_part b n ≡ []
   past_last n h = past (opening_cause b) refl n h

@@ -1,14 +1,14 @@
 -- The handle on the bytes `b` of a sheet: it stands at a row, gives that row's part of the sheet (`row_part` of the checker's definitions), and moves to the next. Definitions only;
 -- `Laws` shows `RowAfterRow` of every list of bytes.
 use Rattle.std.specs.Prelude.{◌≡◌, cond, List, [], ◌∷◌, ◌++◌, ℕ, zero, suc, ◌+◌, ◌-◌, ◌≤◌, ◌<◌, ltb, length}
-use Rattle.refusals.specs.declared.Cause.{Cause}
-use Rattle.refusals.specs.declared.Cause.TheVariants.{None, Refused}
+use Rattle.std.specs.Prelude.{Ok, Err}
+use Rattle.refusals.specs.Causes.{Cause}
 use Rattle.sheet.specs.Checker.{stations_in, row_length, checker_cause, opening_cause, rows_part, row_part}
 
 -- no rows, where a cause refuses
 abbrev pub none_if_refused : Cause → ℕ → ℕ
-none_if_refused None n = n
-none_if_refused (Refused r) n = 0
+none_if_refused (Ok _) n = n
+none_if_refused (Err r) n = 0
 
 module _ (b : List ℕ) where
   -- how many rows readers are handed: S as the trailer has it, and none where 16, 1 or 2 refuses
@@ -44,7 +44,7 @@ module _ (b : List ℕ) where
 -- row after row from the first, the handle gives exactly as many parts as there are rows, each a whole row, and then only empty ones; joined they are the rows
 pub record RowAfterRow (b : List ℕ) : Type 0 where
   -- of a sheet that the checker accepts there are S
-  pub accepted : checker_cause b ≡ None → row_count b ≡ stations_in b
+  pub accepted : checker_cause b ≡ Ok tt → row_count b ≡ stations_in b
   pub stands : (n : ℕ) → n ≤ row_count b → after_moves b n ≡ n
   pub stays : (n : ℕ) → row_count b ≤ n → after_moves b n ≡ row_count b
   pub full : (n : ℕ) → n < row_count b → length (part_after b n) ≡ row_length b

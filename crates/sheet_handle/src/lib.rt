@@ -7,7 +7,7 @@ ghost use Rattle.std.specs.Iterator.{YieldsFirstRef, item_count};
 ghost use Rattle.sheet.specs.Checker.{row_part};
 ghost use Rattle.sheet_handle.specs.RowAfterRow.{row_count, next_row_of, part_after, rows_from};
 
-use refusals::Cause;
+use sheet_readers::Sheet;
 
 // It stands at row `at` of `sheet`.
 #[derive(Clone, Copy)]
@@ -35,14 +35,14 @@ impl<'a> Iterator for Rows<'a> {
 }
 
 // How many rows readers are handed: none where 16, 1 or 2 refuses.
+#[tactic(auto, using(crate::specs::Laws::no_count, crate::specs::Laws::counted))]
 pub fn row_count(sheet: &[u8]) -> usize
     ensures { result ≡ row_count sheet.now }
 {
-    let opening = sheet_readers::opening_cause(sheet);
-    if let Cause::Refused(_) = opening {
-        return 0;
+    match Sheet::open(sheet) {
+        Ok(opened) => opened.trailer.stations as usize,
+        Err(_) => 0,
     }
-    sheet_readers::stations(sheet) as usize
 }
 
 // The number after `at`; past the last row it stays, so that no number overflows.

@@ -12,10 +12,9 @@ use Rattle.std.specs.Float.Ieee.{binary64, to_bits, is_nan, lt}
 use borrow.Author.Tests.{eqb-true}
 use Rattle.doubles.specs.Constants.{0·0}
 use Rattle.doubles.specs.Magnitude.{within_limits}
-use Rattle.refusals.specs.Answer.{value}
+use Rattle.std.specs.Prelude.{Ok}
 use Rattle.refusals.specs.Causes.{first_of}
 use Rattle.refusals.specs.declared.Refusal.TheVariants.{WrongVolume, WrongRow}
-use Rattle.refusals.specs.declared.Cause.TheVariants.{None}
 use Rattle.refusals.proofs.Causes.{both, holds, each, from_each}
 use Rattle.mesh_orders.specs.Edges.{Faces}
 use Rattle.mesh_orders.specs.Order.{order_list}
@@ -77,18 +76,18 @@ vector-bits b i B h = limited_bits b 3 i B each-entry
 -- ---- the causes, one by one
 
 pub record Passed (b : List ℕ) : Type 0 where
-  pub length_fits : wrong_length b ≡ None
-  pub is_well_formed : malformed (parse b) ≡ None
-  pub few : too_many (parse b) ≡ None
-  pub is_in_limits : out_of_limits (parse b) ≡ None
-  pub corners : no_such_vertex (parse b) ≡ None
-  pub order : wrong_order (parse b).faces (order_in b) ≡ None
-  pub mate : wrong_mate (parse b).faces (mates_in b) ≡ None
-  pub solid : solid_cause (parse b) ≡ None
-  pub measure : wrong_volume b (parse b) ≡ None
-  pub stations : first_of (station_count (parse b)) (check_station b (parse b)) ≡ None
+  pub length_fits : wrong_length b ≡ Ok tt
+  pub is_well_formed : malformed (parse b) ≡ Ok tt
+  pub few : too_many (parse b) ≡ Ok tt
+  pub is_in_limits : out_of_limits (parse b) ≡ Ok tt
+  pub corners : no_such_vertex (parse b) ≡ Ok tt
+  pub order : wrong_order (parse b).faces (order_in b) ≡ Ok tt
+  pub mate : wrong_mate (parse b).faces (mates_in b) ≡ Ok tt
+  pub solid : solid_cause (parse b) ≡ Ok tt
+  pub measure : wrong_volume b (parse b) ≡ Ok tt
+  pub stations : first_of (station_count (parse b)) (check_station b (parse b)) ≡ Ok tt
 
-pub passed : (b : List ℕ) → checker_cause b ≡ None → Passed b
+pub passed : (b : List ℕ) → checker_cause b ≡ Ok tt → Passed b
 unfolding checker_cause
 passed b ok =
     let a = both (wrong_length b) _ ok in
@@ -102,7 +101,7 @@ passed b ok =
     let j = both (wrong_volume b (parse b)) _ i.1 in
     record { length_fits = a.0; is_well_formed = c.0; few = d.0; is_in_limits = e.0; corners = f.0; order = g.0; mate = h.0; solid = i.0; measure = j.0; stations = j.1 }
 
-pub passes_all : (b : List ℕ) → Passed b → checker_cause b ≡ None
+pub passes_all : (b : List ℕ) → Passed b → checker_cause b ≡ Ok tt
 unfolding checker_cause
 passes_all b p = rw (p.length_fits, p.is_well_formed, p.few, p.is_in_limits, p.corners, p.order, p.mate, p.solid, p.measure) p.stations
 
@@ -158,7 +157,7 @@ module _ (b : List ℕ) (B : IsBytes b) (p : Passed b) where
 
   -- ---- rows
 
-  station : (i : ℕ) → i < stations_in b → (station_cause s i ≡ None) × (wrong_row b s i ≡ None)
+  station : (i : ℕ) → i < stations_in b → (station_cause s i ≡ Ok tt) × (wrong_row b s i ≡ Ok tt)
   unfolding check_station
   station i l = both (station_cause s i) (wrong_row b s i) (each (station_count s) (check_station b s) p.stations i (rw stations_read l))
 
@@ -181,7 +180,7 @@ module _ (b : List ℕ) (B : IsBytes b) (p : Passed b) where
         stored = ap (λ (n : ℕ). take n (drop (row_start b i) b)) w ∙ sym (pack-unpack 8 (row_width (kind_in b)) b (row_start b i) B (omega (arith, frame.1.1, row_within (kind_in b) i (stations_in b) l))) ∙ ap (pack 8) e;
       }
     where
-      row-bits : (r : Row) → row_at s i ≡ value r → bits (numbers_of s (row_at s i)) ≡ bits (row_numbers (kind_in b) r)
+      row-bits : (r : Row) → row_at s i ≡ Ok r → bits (numbers_of s (row_at s i)) ≡ bits (row_numbers (kind_in b) r)
       row-bits r q = rw q (ap (λ (k : ℕ). bits (row_numbers k r)) (kind_read b))
 
   -- ---- the whole
@@ -229,7 +228,7 @@ module _ (b : List ℕ) (B : IsBytes b) (p : Passed b) where
 
   -- ---- no cause of the writer's
 
-  mesh-solid : is_mesh s.kind ≡ true → body_cause s ≡ None
+  mesh-solid : is_mesh s.kind ≡ true → body_cause s ≡ Ok tt
   unfolding solid_cause volume
   mesh-solid k =
       let v = s.vertices in
@@ -247,14 +246,14 @@ module _ (b : List ℕ) (B : IsBytes b) (p : Passed b) where
         side_z = λ z. absurd (two_kinds s.kind k z);
       })
 
-  prism-solid : is_prism s.kind ≡ true → body_cause s ≡ None
+  prism-solid : is_prism s.kind ≡ true → body_cause s ≡ Ok tt
   unfolding solid_cause body_cause
   prism-solid k = rw (prism_no_mesh s.kind k) (rw (prism_no_mesh s.kind k) at p.solid)
 
   known : KindKnown s
   known = (none-malformed s p.is_well_formed).1.1.1
 
-  writer_none : writer_cause s (length s.faces) (length b) ≡ None
+  writer_none : writer_cause s (length s.faces) (length b) ≡ Ok tt
   unfolding writer_cause
   writer_none =
       let room : sheet_size s ≤ length b = omega (arith, pointer_read b, frame.1.1) in

@@ -1,9 +1,9 @@
 -- Demand 3, as sheet/specs/Demand3 states it: `demand_3`, at the end, with each of its sentences by name above it. Assumes nothing.
 use Rattle.std.specs.Prelude.{◌≡◌, refl, List, [], ◌∷◌, ◌↔◌, ℕ, ◌+◌, ◌*◌, ◌≤◌, length, take, drop}
 use Rattle.std.proofs.Common.{sym, ap, ◌∙◌, arith}
-use Rattle.refusals.specs.Answer.{value, or_answer}
-use Rattle.refusals.specs.declared.Cause.{Cause}
-use Rattle.refusals.specs.declared.Cause.TheVariants.{None, Refused}
+use Rattle.std.specs.Prelude.{Ok, Err}
+use Rattle.refusals.specs.Answer.{or_answer}
+use Rattle.refusals.specs.Causes.{Cause}
 use Rattle.mesh.specs.Surface.{vertex}
 use Rattle.sheet_layout.specs.LittleEndian.{number, unpack, doubles, IsBytes}
 use Rattle.sheet_layout.proofs.Numbers.{number-part}
@@ -21,20 +21,20 @@ use Rattle.sheet_laws.specs.KeptLaws as keeping
 
 -- ---- the writer writes exactly where no cause of its order holds; w and o are the lengths of work and out
 
-pub writes_exactly : (s : SheetInput) (w o : ℕ) → (writer_cause s w o ≡ None) ↔ NoCause s w o
+pub writes_exactly : (s : SheetInput) (w o : ℕ) → (writer_cause s w o ≡ Ok tt) ↔ NoCause s w o
 writes_exactly s w o = (no_cause s w o, cause-none s w o)
 
 -- ---- what the checker accepts is right
 
-pub right : (b : List ℕ) → IsBytes b → checker_cause b ≡ None → Right b (kind_in b) (stations_in b)
+pub right : (b : List ℕ) → IsBytes b → checker_cause b ≡ Ok tt → Right b (kind_in b) (stations_in b)
 right b B ok = accepted.right b B (accepted.passed b ok)
 
-answer-none : (c : Cause) {i j k n : ℕ} → or_answer c (value (i ∷ j ∷ [])) ≡ value (k ∷ n ∷ []) → (c ≡ None) × ((i ≡ k) × (j ≡ n))
-answer-none None e = (refl, (cc, cc))
-answer-none (Refused r) e = absurd (let z : ◌≡◌ {A = ℕ} 0 1 = cc in omega arith)
+answer-none : (c : Cause) {i j k n : ℕ} → or_answer c (Ok (i ∷ j ∷ [])) ≡ Ok (k ∷ n ∷ []) → (c ≡ Ok tt) × ((i ≡ k) × (j ≡ n))
+answer-none (Ok _) e = (refl, (cc, cc))
+answer-none (Err r) e = absurd (let z : ◌≡◌ {A = ℕ} 0 1 = cc in omega arith)
 
 -- an answer that accepts gives the trailer's kind and S
-pub accepted-right : (b : List ℕ) → IsBytes b → (k n : ℕ) → check_sheet b ≡ value (k ∷ n ∷ []) → Right b k n
+pub accepted-right : (b : List ℕ) → IsBytes b → (k n : ℕ) → check_sheet b ≡ Ok (k ∷ n ∷ []) → Right b k n
 unfolding check_sheet
 accepted-right b B k n e = let h = answer-none (checker_cause b) e in rw (sym h.1.0, sym h.1.1) (right b B h.0)
 
@@ -99,15 +99,15 @@ module _ (b c : List ℕ) (g : SameGiven b c) where
   same-parse = same_input same_kind (ap doubles corners) faces (vectors 16 (omega arith)) (vectors 40 (omega arith)) (ap doubles points)
 
 -- two accepted sheets that agree bit for bit in kind, body, magnetisation, ambient field and stations are the same in every byte
-pub alone : (b c : List ℕ) → IsBytes b → IsBytes c → checker_cause b ≡ None → checker_cause c ≡ None → SameGiven b c → b ≡ c
+pub alone : (b c : List ℕ) → IsBytes b → IsBytes c → checker_cause b ≡ Ok tt → checker_cause c ≡ Ok tt → SameGiven b c → b ≡ c
 alone b c B C p q g = (right b B p).whole ∙ ap sheet_bytes (same-parse b c g) ∙ sym (right c C q).whole
 
 -- ---- what the writer writes
 
-pub kept : (s : SheetInput) (w o : ℕ) → Typed s → writer_cause s w o ≡ None → Kept s (sheet_bytes s)
+pub kept : (s : SheetInput) (w o : ℕ) → Typed s → writer_cause s w o ≡ Ok tt → Kept s (sheet_bytes s)
 kept s w o ty e = keeping.is-kept s ty w o (no_cause s w o e)
 
-pub sheet_length : (s : SheetInput) (w o : ℕ) → Typed s → writer_cause s w o ≡ None → length (sheet_bytes s) ≡ sheet_size s
+pub sheet_length : (s : SheetInput) (w o : ℕ) → Typed s → writer_cause s w o ≡ Ok tt → length (sheet_bytes s) ≡ sheet_size s
 sheet_length s w o ty e = keeping.sheet_length s ty w o (no_cause s w o e)
 
 -- ---- all of it

@@ -6,9 +6,10 @@ use Rattle.std.specs.Float.Ieee.{fits, lt}
 use Rattle.std.specs.Float.Ieee.Scale.{finite}
 use Rattle.std.specs.Float.Ieee.Fits.{add-fits, sub-fits}
 use Rattle.std.specs.Float.Ieee.Bits.{of_bits-fits}
-use Rattle.doubles.specs.Rounded.{◌⊕◌, ◌⊗◌}
-use Rattle.doubles.specs.Constants.{0·0, 0·5, 2·0}
-use Rattle.refusals.specs.Answer.{Answer, value, refused}
+use Rattle.doubles.specs.Rounded.{◌⊗◌}
+use Rattle.doubles.specs.Constants.{0·0, 2·0}
+use Rattle.std.specs.Prelude.{Ok, Err}
+use Rattle.refusals.specs.Answer.{Answer}
 use Rattle.refusals.specs.declared.Refusal.{Refusal}
 use Rattle.refusals.specs.declared.Refusal.TheVariants.{TooDeep, TooManyEdges}
 use Rattle.newtonian.specs.declared.Vector.{Vector}
@@ -16,6 +17,7 @@ use Rattle.newtonian.specs.declared.Newtonian.{Newtonian}
 use Rattle.newtonian.specs.Fold.{Fold}
 use Rattle.newtonian.specs.Vectors.{add_fields, zero_field}
 use Rattle.legendre.specs.GaussLegendre.{node, weight}
+use Rattle.prism_corner_sums.specs.declared.Bounds.{Bounds}
 use Rattle.prism_corner_sums.specs.CornerSums.{add_corner_terms, add_corner, corner_sums}
 use Rattle.newtonian.specs.Point.{add_point}
 use Rattle.prism_cubature.specs.Cubature.{half_widths, offset, point, line, layer, cubature}
@@ -36,7 +38,7 @@ use Rattle.prism_pieces.specs.declared.AxisRule.{AxisRule}
 use Rattle.prism_pieces.specs.declared.Piece.{Piece}
 use Rattle.prism_pieces.specs.declared.Piece.TheVariants.{Whole, Halves}
 use Rattle.prism_pieces.specs.declared.Axis.{Axis}
-use Rattle.prism_pieces.specs.Choice.{distance, axis_order, affordable, longest, shortest, along, with, farthest_corner, too_rough, bisected, piece_near, piece_outside, piece_of}
+use Rattle.prism_pieces.specs.Choice.{distance, axis_order, affordable, longest, shortest, along, farthest_corner, too_rough, bisected, piece_near, piece_outside, piece_of}
 use Rattle.prism.specs.Prism.{join, field_or, pieces, max_bisections, prism_at}
 
 pub record FieldFits (g : Newtonian) : Type 0 where
@@ -89,8 +91,8 @@ PieceFits q = (g : Newtonian) → q ≡ Whole g → FieldFits g
 whole_fits : (g : Newtonian) → FieldFits g → PieceFits (Whole g)
 whole_fits g h f e = subst FieldFits (let z : g ≡ f = cc in z) h
 
-halves_fit : (u l : Vector) → PieceFits (Halves u l)
-halves_fit u l f e = absurd (let z : ◌≡◌ {A = ℕ} 0 1 = cc in omega arith)
+halves_fit : (l u : Bounds) → PieceFits (Halves l u)
+halves_fit l u f e = absurd (let z : ◌≡◌ {A = ℕ} 0 1 = cc in omega arith)
 
 either : (b : Bool) (x y : Piece) → PieceFits x → PieceFits y → PieceFits (cond b x y)
 either true x y p q = p
@@ -101,7 +103,7 @@ sums_fit p lo hi = whole_fits (corner_sums p lo hi) (corner_sums-fit p lo hi)
 
 bisected_fits : (a : Axis) (lo hi : Vector) → PieceFits (bisected a lo hi)
 unfolding bisected
-bisected_fits a lo hi = halves_fit (with a (0·5 ⊗ (along a lo ⊕ along a hi)) hi) (with a (0·5 ⊗ (along a lo ⊕ along a hi)) lo)
+bisected_fits a lo hi = halves_fit _ _
 
 near_fits : (rule : AxisRule) (p lo hi h : Vector) → PieceFits (piece_near rule p lo hi h)
 unfolding piece_near
@@ -129,30 +131,30 @@ piece_fits rule p lo hi =
 
 -- what an answer has of a field
 abbrev pub AnswerFits : Answer Newtonian → Type 0
-AnswerFits a = (g : Newtonian) → a ≡ value g → FieldFits g
+AnswerFits a = (g : Newtonian) → a ≡ Ok g → FieldFits g
 
-pub value_fits : (g : Newtonian) → FieldFits g → AnswerFits (value g)
+pub value_fits : (g : Newtonian) → FieldFits g → AnswerFits (Ok g)
 value_fits g h f e = subst FieldFits (let z : g ≡ f = cc in z) h
 
-pub refused_fits : (r : Refusal) → AnswerFits (refused r)
+pub refused_fits : (r : Refusal) → AnswerFits (Err r)
 refused_fits r f e = absurd (let z : ◌≡◌ {A = ℕ} 0 1 = cc in omega arith)
 
 join_fits : (a b : Answer Newtonian) → AnswerFits (join a b)
 unfolding join
-join_fits (refused r) b = refused_fits r
-join_fits (value f) (refused r) = refused_fits r
-join_fits (value f) (value g) = value_fits (add_fields f g) (add_fields-fit f g)
+join_fits (Err r) b = refused_fits r
+join_fits (Ok f) (Err r) = refused_fits r
+join_fits (Ok f) (Ok g) = value_fits (add_fields f g) (add_fields-fit f g)
 
-of_piece : (q : Piece) (halves : Vector → Vector → Answer Newtonian) → PieceFits q → ((u l : Vector) → AnswerFits (halves u l)) → AnswerFits (field_or q halves)
+of_piece : (q : Piece) (halves : Bounds → Bounds → Answer Newtonian) → PieceFits q → ((l u : Bounds) → AnswerFits (halves l u)) → AnswerFits (field_or q halves)
 of_piece (Whole g) halves p h = value_fits g (p g refl)
-of_piece (Halves u l) halves p h = h u l
+of_piece (Halves l u) halves p h = h l u
 
 pieces-fit : (rule : AxisRule) (i n : ℕ) (p lo hi : Vector) → AnswerFits (pieces rule i n p lo hi)
 unfolding pieces
-pieces-fit rule i zero p lo hi = of_piece (piece_of rule p lo hi) (λ u l. refused (TooDeep i)) (piece_fits rule p lo hi) (λ u l. refused_fits (TooDeep i))
+pieces-fit rule i zero p lo hi = of_piece (piece_of rule p lo hi) (λ l u. Err (TooDeep i)) (piece_fits rule p lo hi) (λ l u. refused_fits (TooDeep i))
 pieces-fit rule i (suc n) p lo hi =
-    of_piece (piece_of rule p lo hi) (λ u l. join (pieces rule i n p lo u) (pieces rule i n p l hi)) (piece_fits rule p lo hi)
-    (λ u l. join_fits (pieces rule i n p lo u) (pieces rule i n p l hi))
+    of_piece (piece_of rule p lo hi) (λ l u. join (pieces rule i n p l.lo l.hi) (pieces rule i n p u.lo u.hi)) (piece_fits rule p lo hi)
+    (λ l u. join_fits (pieces rule i n p l.lo l.hi) (pieces rule i n p u.lo u.hi))
 
 prism_fits : (rule : AxisRule) (i : ℕ) (p lo hi : Vector) → AnswerFits (prism_at rule i p lo hi)
 unfolding prism_at
@@ -199,18 +201,18 @@ edge_face_sums-fit : (i : ℕ) (p : Vector) (v : List Float) (f : List ℕ) → 
 unfolding edge_face_sums field_of
 edge_face_sums-fit i p v f =
     let q = sums_of-fit p v f in
-    chosen_fits (leb (length (sums_of p v f).edges) edge_limit) (value (field_of (sums_of p v f))) (refused (TooManyEdges i))
+    chosen_fits (leb (length (sums_of p v f).edges) edge_limit) (Ok (field_of (sums_of p v f))) (Err (TooManyEdges i))
     (value_fits (field_of (sums_of p v f)) (record { potential = q.potential; x = q.x; y = q.y; z = q.z })) (refused_fits (TooManyEdges i))
 
 polyhedron_fits : (i : ℕ) (p : Vector) (v : List Float) (f : List ℕ) → AnswerFits (polyhedron_at i p v f)
 unfolding polyhedron_at polyhedron_from
 polyhedron_fits i p v f =
     let c = centroid v f in
-    chosen_fits (is_far p c (radius c v f)) (value (tetrahedra p c v f)) (edge_face_sums i p v f) (value_fits (tetrahedra p c v f) (tetrahedra-fit p c v f)) (edge_face_sums-fit i p v f)
+    chosen_fits (is_far p c (radius c v f)) (Ok (tetrahedra p c v f)) (edge_face_sums i p v f) (value_fits (tetrahedra p c v f) (tetrahedra-fit p c v f)) (edge_face_sums-fit i p v f)
 
 -- ---- the field of a sheet's row
 
-pub field_at_fits : (kind i : ℕ) (p : Vector) (v : List Float) (f : List ℕ) (g : Newtonian) → field_at kind i p v f ≡ value g → FieldFits g
+pub field_at_fits : (kind i : ℕ) (p : Vector) (v : List Float) (f : List ℕ) (g : Newtonian) → field_at kind i p v f ≡ Ok g → FieldFits g
 unfolding field_at
 field_at_fits kind i p v f =
     chosen_fits (is_mesh kind) (polyhedron_at i p v f) (prism_at (axis_rule kind) i p (vertex v 0) (vertex v 1)) (polyhedron_fits i p v f)

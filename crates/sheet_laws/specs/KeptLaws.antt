@@ -14,10 +14,10 @@ use Rattle.std.specs.Float.Ieee.{binary64, to_bits, fits}
 use Rattle.std.specs.Float.Ieee.Fits.{add-fits, mul-fits, div-fits, cond-fits, nan-fits}
 use Rattle.std.specs.Float.Ieee.Bits.{of_bits-fits}
 use Rattle.doubles.specs.Constants.{0·0}
-use Rattle.refusals.specs.Answer.{Answer, value, refused}
+use Rattle.std.specs.Prelude.{Ok, Err}
+use Rattle.refusals.specs.Answer.{Answer}
 use Rattle.refusals.specs.Causes.{first_of}
 use Rattle.refusals.specs.declared.Refusal.TheVariants.{WrongVolume, WrongRow}
-use Rattle.refusals.specs.declared.Cause.TheVariants.{None}
 use Rattle.refusals.proofs.Causes.{both, from_both, passes, from_each}
 use Rattle.lists.specs.Count.{Below}
 use Rattle.lists.proofs.Counts.{below_all}
@@ -82,11 +82,11 @@ row_from_fits kind m b g h (suc (suc (suc (suc (suc (suc zero)))))) = mul-fits b
 row_from_fits kind m b g h (suc (suc (suc (suc (suc (suc (suc zero))))))) = div-fits binary64 _ _
 row_from_fits kind m b g h (suc (suc (suc (suc (suc (suc (suc (suc i)))))))) = nan-fits binary64
 
-in_row_fits : (kind : ℕ) (m b : Vector) (a : Answer Newtonian) → ((g : Newtonian) → a ≡ value g → FieldFits g) → (r : Row) → in_row kind m b a ≡ value r → IsDoubles (row_numbers kind r)
-in_row_fits kind m b (value g) h r e = subst (λ (q : Row). IsDoubles (row_numbers kind q)) (let z : row_from kind m b g ≡ r = cc in z) (row_from_fits kind m b g (h g refl))
-in_row_fits kind m b (refused x) h r e = absurd (let z : ◌≡◌ {A = ℕ} 0 1 = cc in omega arith)
+in_row_fits : (kind : ℕ) (m b : Vector) (a : Answer Newtonian) → ((g : Newtonian) → a ≡ Ok g → FieldFits g) → (r : Row) → in_row kind m b a ≡ Ok r → IsDoubles (row_numbers kind r)
+in_row_fits kind m b (Ok g) h r e = subst (λ (q : Row). IsDoubles (row_numbers kind q)) (let z : row_from kind m b g ≡ r = cc in z) (row_from_fits kind m b g (h g refl))
+in_row_fits kind m b (Err x) h r e = absurd (let z : ◌≡◌ {A = ℕ} 0 1 = cc in omega arith)
 
-row_fits : (s : SheetInput) (i : ℕ) (r : Row) → row_at s i ≡ value r → IsDoubles (row_numbers s.kind r)
+row_fits : (s : SheetInput) (i : ℕ) (r : Row) → row_at s i ≡ Ok r → IsDoubles (row_numbers s.kind r)
 unfolding row_at row.row_at
 row_fits s i r e =
     in_row_fits s.kind s.magnetisation s.ambient (field_at s.kind i (station_at s i) s.vertices s.faces)
@@ -316,19 +316,19 @@ module _ (s : SheetInput) (ty : Typed s) (w o : ℕ) (h : NoCause s w o) where
 
   -- ---- and the sheet passes
 
-  mesh-solid : is_mesh s.kind ≡ true → solid_cause s ≡ None
+  mesh-solid : is_mesh s.kind ≡ true → solid_cause s ≡ Ok tt
   unfolding solid_cause volume
   mesh-solid k =
       rw (k, degenerate_none s.vertices s.faces (h.normals k), inverted-none s.vertices s.faces (rw k at (h.positive k)))
 
-  prism-solid : is_prism s.kind ≡ true → solid_cause s ≡ None
+  prism-solid : is_prism s.kind ≡ true → solid_cause s ≡ Ok tt
   unfolding solid_cause too_thin sides_within_limits side_within_limits
   prism-solid k = rw (prism_no_mesh s.kind k, h.side_x k, h.side_y k, h.side_z k)
 
   pointer_read : pointer_for b ≡ pointer s
   pointer_read = ap (λ (k : ℕ). pointer_of k (vertices_in b) (faces_in b) (stations_in b)) kind-is ∙ rw (vertices-is, faces-is, stations-is)
 
-  row_passes : (i : ℕ) → i < station_count s → wrong_row b s i ≡ None
+  row_passes : (i : ℕ) → i < station_count s → wrong_row b s i ≡ Ok tt
   unfolding wrong_row
   row_passes i l =
       let n = row_width s.kind in
@@ -336,11 +336,11 @@ module _ (s : SheetInput) (ty : Typed s) (w o : ℕ) (h : NoCause s w o) where
       let q : unpack 8 n b (row_start b i) ≡ bits (numbers_of s (row_at s i)) = at 8 n (rows_start b + 8 * n * i) e (rows_apart s n b (rows_start b) (station_count s) have rows-part i l) in
       rw q (passes (same_numbers (bits (numbers_of s (row_at s i))) (bits (numbers_of s (row_at s i)))) (WrongRow i) (list_same (bits (numbers_of s (row_at s i)))))
 
-  volume_passes : wrong_volume b s ≡ None
+  volume_passes : wrong_volume b s ≡ Ok tt
   unfolding wrong_volume
   volume_passes = passes _ WrongVolume (eq-eqb (volume_in b) (to_bits binary64 (volume s)) volume-is)
 
-  pub accepted : checker_cause b ≡ None
+  pub accepted : checker_cause b ≡ Ok tt
   unfolding writer_cause check_station
   accepted =
       let c₁ = both (malformed s) _ (cause-none s w o h) in

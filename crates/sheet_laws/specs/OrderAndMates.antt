@@ -8,7 +8,7 @@ use native.Mathlib.Omega.{arith}
 use Rattle.std.proofs.Math.ListN.{length, length-map}
 use borrow.Author.Tests.{eq-eqb, ne_eqb, eqb-true, lt-ltb, ltb-true}
 use Rattle.refusals.specs.declared.Refusal.TheVariants.{WrongOrder, WrongMate}
-use Rattle.refusals.specs.declared.Cause.TheVariants.{None}
+use Rattle.std.specs.Prelude.{Ok}
 use Rattle.lists.specs.Count.{Below}
 use Rattle.lists.specs.Sort.{range, Ascending}
 use Rattle.lists.proofs.Numbers.{both, below?, same?}
@@ -39,7 +39,7 @@ steps_ascend k l h i (suc j) ij jl =
     ⊎_elim (λ e. subst (λ (x : ℕ). k (get_or l x 0) < k (get_or l (suc j) 0)) (sym e) (h j jl))
     (λ l'. omega (arith, steps_ascend k l h i j l' (omega arith), h j jl)) (eq-or-lt_of_le (le_of_suc-le-suc ij))
 
-module _ (f o : List ℕ) (n : length o ≡ length f) (e : wrong_order f o ≡ None) where
+module _ (f o : List ℕ) (n : length o ≡ length f) (e : wrong_order f o ≡ Ok tt) where
   each-ascends : (i : ℕ) → i < length f → ascends f o i ≡ true
   unfolding wrong_order
   each-ascends = none_each (length f) (ascends f o) (λ i. WrongOrder) e
@@ -80,7 +80,7 @@ module _ (f o : List ℕ) (n : length o ≡ length f) (e : wrong_order f o ≡ N
             let q = has_pair f u.0 a b u.2 in
             omega (arith, sym (ap₂ (occurrences f) q.0 q.1) ∙ edge-one f h u.0 u.1 (λ w wl. apart u.0 w u.1 wl))
 
-    module _ (m : List ℕ) (k : length m ≡ length f) (g : wrong_mate f m ≡ None) where
+    module _ (m : List ℕ) (k : length m ≡ length f) (g : wrong_mate f m ≡ Ok tt) where
       reverses : (u : ℕ) → u < length f → (get_or m u 0 < length f) × (edge f (get_or m u 0) ≡ reverse f u)
       unfolding wrong_mate
       reverses u l =
@@ -122,7 +122,7 @@ module _ (f : List ℕ) (h : Faces f) (c : Closed f) where
           ⊎_elim (λ l. omega (arith, occurs-two f a b x y l yl p q, c.once x xl))
           (λ l. ⊎_elim (λ z. ne (sym z)) (λ z. omega (arith, occurs-two f a b y x (omega arith) xl q p, c.once x xl)) (same? y x)) (below? x y)
 
-  pub order_passes : wrong_order f (order_list f) ≡ None
+  pub order_passes : wrong_order f (order_list f) ≡ Ok tt
   unfolding wrong_order
   order_passes = each_none (length f) (ascends f (order_list f)) (λ i. WrongOrder) (λ i l. at i l)
     where
@@ -147,7 +147,7 @@ module _ (f : List ℕ) (h : Faces f) (c : Closed f) where
       let z : 0 + u ≡ u = omega arith in
       rw (map_range (mate f) 0 (length f) u k, z) (mate-within u k)
 
-  pub mates_pass : wrong_mate f (mates f) ≡ None
+  pub mates_pass : wrong_mate f (mates f) ≡ Ok tt
   unfolding wrong_mate mates
   mates_pass =
       each_none (length f) (is_reverse f (map (mate f) (range 0 (length f)))) (λ u. WrongMate) (λ u l.

@@ -14,7 +14,7 @@ use Rattle.std.specs.Float.{binary64}
 use Rattle.std.specs.Float.Ieee.{to_bits}
 use borrow.Author.Tests.{eq-eqb, eqb-true, leb-true, le-leb}
 use Rattle.refusals.specs.declared.Refusal.TheVariants.{WrongLength}
-use Rattle.refusals.specs.declared.Cause.TheVariants.{None}
+use Rattle.std.specs.Prelude.{Ok}
 use Rattle.refusals.proofs.Causes.{holds}
 use Rattle.lists.proofs.Numbers.{both}
 use Rattle.newtonian.specs.declared.Vector.{Vector}
@@ -94,7 +94,7 @@ module _ (b : List ℕ) where
 
   -- ---- 16
 
-  pub none-length : wrong_length b ≡ None
+  pub none-length : wrong_length b ≡ Ok tt
       → (80 ≤ length b) × ((pointer_in b ≡ pointer_for b) × (length b ≡ pointer_for b + 80))
   unfolding wrong_length
   none-length e =
@@ -104,7 +104,7 @@ module _ (b : List ℕ) where
       (leb-true _ _ t.0, (eqb-true _ _ u.0, eqb-true _ _ u.1))
 
   pub length_none : pointer_in b ≡ pointer_for b → length b ≡ pointer_for b + 80
-      → wrong_length b ≡ None
+      → wrong_length b ≡ Ok tt
   unfolding wrong_length
   length_none p q =
       let before = pointer_for b in

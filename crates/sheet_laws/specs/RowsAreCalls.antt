@@ -9,11 +9,11 @@ use Rattle.std.specs.Prelude.{◌≡◌, Bool, true, false, ◌&&◌, List, ℕ,
 use Rattle.std.proofs.Common.{sym, ◌∙◌, subst, arith}
 use Rattle.std.proofs.Math.Path.{ap}
 use Rattle.std.proofs.Math.Logic.{⊎_elim}
-use Rattle.refusals.specs.Answer.{Answer, value, or_answer}
+use Rattle.std.specs.Prelude.{Ok}
+use Rattle.refusals.specs.Answer.{Answer, or_answer}
 use Rattle.refusals.specs.Causes.{unless}
 use Rattle.refusals.specs.declared.Refusal.{Refusal}
 use Rattle.refusals.specs.declared.Refusal.TheVariants.{OutOfLimits}
-use Rattle.refusals.specs.declared.Cause.TheVariants.{None}
 use Rattle.newtonian.specs.Vectors.{vector_within_limits}
 use Rattle.newtonian.specs.declared.Vector.{Vector}
 use Rattle.newtonian.specs.declared.Newtonian.{Newtonian}
@@ -54,11 +54,11 @@ prism_by rule p lo hi = or_answer (cause_of p lo hi) (prism_at rule 0 p lo hi)
 
 pub record FieldFromCalls (s : SheetInput) (i : ℕ) (g : Newtonian) : Type 0 where
   -- with a work list of 3F entries or more
-  pub of_mesh : is_mesh s.kind ≡ true → (n : ℕ) → length s.faces ≤ n → polyhedron (station_at s i) s.vertices s.faces n ≡ value g
+  pub of_mesh : is_mesh s.kind ≡ true → (n : ℕ) → length s.faces ≤ n → polyhedron (station_at s i) s.vertices s.faces n ≡ Ok g
   -- from vertex 0 to vertex 1, by the kind's rule for the longest axis; and by the public call itself where that is its rule
-  pub by_rule : is_prism s.kind ≡ true → prism_by (axis_rule s.kind) (station_at s i) (vertex s.vertices 0) (vertex s.vertices 1) ≡ value g
+  pub by_rule : is_prism s.kind ≡ true → prism_by (axis_rule s.kind) (station_at s i) (vertex s.vertices 0) (vertex s.vertices 1) ≡ Ok g
   pub of_prism : is_prism s.kind ≡ true → axis_rule s.kind ≡ LastOfEquals
-      → prism (station_at s i) (vertex s.vertices 0) (vertex s.vertices 1) ≡ value g
+      → prism (station_at s i) (vertex s.vertices 0) (vertex s.vertices 1) ≡ Ok g
 
 pub record RowFromCalls (b : List ℕ) (i : ℕ) : Type 0 where
   pub field : Newtonian
@@ -78,7 +78,7 @@ module _ (s : SheetInput) (w o : ℕ) (h : NoCause s w o) (i : ℕ) (l : i < sta
   station-within : vector_within_limits p ≡ true
   station-within = within_limits_lem s.stations i h.station-numbers l
 
-  mesh-none : is_mesh s.kind ≡ true → (n : ℕ) → length s.faces ≤ n → polyhedron_cause p s.vertices s.faces n ≡ None
+  mesh-none : is_mesh s.kind ≡ true → (n : ℕ) → length s.faces ≤ n → polyhedron_cause p s.vertices s.faces n ≡ Ok tt
   unfolding polyhedron_cause given_cause volume
   mesh-none k n room =
       let v = s.vertices in
@@ -92,7 +92,7 @@ module _ (s : SheetInput) (w o : ℕ) (h : NoCause s w o) (i : ℕ) (l : i < sta
       }) in
       rw (count_none v f n c, limits_none v f h.vertex-numbers, station-within, surface)
 
-  prism-none : is_prism s.kind ≡ true → cause_of p (vertex s.vertices 0) (vertex s.vertices 1) ≡ None
+  prism-none : is_prism s.kind ≡ true → cause_of p (vertex s.vertices 0) (vertex s.vertices 1) ≡ Ok tt
   unfolding cause_of numbers_within_limits sides_within_limits side_within_limits
   prism-none k =
       let two = ⊎_elim (λ m. absurd (two_kinds s.kind m k)) (λ q. q.1.0) h.known in
@@ -103,12 +103,12 @@ module _ (s : SheetInput) (w o : ℕ) (h : NoCause s w o) (i : ℕ) (l : i < sta
 
   -- ---- the field of a row is what they answer
 
-  module _ (g : Newtonian) (e : field_at s.kind i p s.vertices s.faces ≡ value g) where
-    mesh-field : is_mesh s.kind ≡ true → polyhedron_at 0 p s.vertices s.faces ≡ value g
+  module _ (g : Newtonian) (e : field_at s.kind i p s.vertices s.faces ≡ Ok g) where
+    mesh-field : is_mesh s.kind ≡ true → polyhedron_at 0 p s.vertices s.faces ≡ Ok g
     unfolding field_at
     mesh-field k = polyhedron_at-value i 0 p s.vertices s.faces g (rw k at e)
 
-    prism-field : is_prism s.kind ≡ true → prism_at (axis_rule s.kind) 0 p (vertex s.vertices 0) (vertex s.vertices 1) ≡ value g
+    prism-field : is_prism s.kind ≡ true → prism_at (axis_rule s.kind) 0 p (vertex s.vertices 0) (vertex s.vertices 1) ≡ Ok g
     unfolding field_at
     prism-field k = prism_at-value (axis_rule s.kind) i 0 p (vertex s.vertices 0) (vertex s.vertices 1) g (rw (prism_no_mesh s.kind k) at e)
 
@@ -141,29 +141,29 @@ written-rows s b B h i l =
     let e = ap station_count h.holds in
     rows_are_calls b _ _ (right b B h.accepted) i (omega (arith, e, stations_read b))
 
-pub row_elsewhere : (s : SheetInput) (stations : List Float) (i j : ℕ) (r : Row) → station_at s i ≡ vertex stations j → row_at s i ≡ value r
-    → row_at (input_of s.kind s.vertices s.faces s.magnetisation s.ambient stations) j ≡ value r
+pub row_elsewhere : (s : SheetInput) (stations : List Float) (i j : ℕ) (r : Row) → station_at s i ≡ vertex stations j → row_at s i ≡ Ok r
+    → row_at (input_of s.kind s.vertices s.faces s.magnetisation s.ambient stations) j ≡ Ok r
 unfolding row_at
 row_elsewhere s stations i j r q e =
     let m = s.magnetisation in
     let b = s.ambient in
-    subst (λ (p : Vector). row.row_at s.kind m b j p s.vertices s.faces ≡ value r) q
+    subst (λ (p : Vector). row.row_at s.kind m b j p s.vertices s.faces ≡ Ok r) q
     (row_at-value s.kind m b i (station_at s i) s.vertices s.faces j r e)
 
 -- ---- the public calls on the field's numbers
 
-not-refused : {S : Type 0} (t : Bool) (r : Refusal) (x y : S) → or_answer (unless t r) (value x) ≡ value y → x ≡ y
+not-refused : {S : Type 0} (t : Bool) (r : Refusal) (x y : S) → or_answer (unless t r) (Ok x) ≡ Ok y → x ≡ y
 not-refused true r x y e = cc
 not-refused false r x y e = absurd (let z : ◌≡◌ {A = ℕ} 0 1 = cc in omega arith)
 
 module _ (kind : ℕ) (m b : Vector) (g : Newtonian) where
-  pub anomaly_from-body : (x : Vector) → magnetic_constant kind ≡ μ₀/4π → body g.hessian m ≡ value x → (row_from kind m b g).anomaly ≡ x
+  pub anomaly_from-body : (x : Vector) → magnetic_constant kind ≡ μ₀/4π → body g.hessian m ≡ Ok x → (row_from kind m b g).anomaly ≡ x
   unfolding row_from body
   anomaly_from-body x c e =
       ap (λ (μ : Float). body_of μ g.hessian m) c
       ∙ not-refused (hessian_within_limits g.hessian && vector_within_limits m) OutOfLimits (body_of μ₀/4π g.hessian m) x e
 
-  pub total_from_call : (t : Float) → total_field b (row_from kind m b g).anomaly ≡ value t → (row_from kind m b g).total ≡ t
+  pub total_from_call : (t : Float) → total_field b (row_from kind m b g).anomaly ≡ Ok t → (row_from kind m b g).total ≡ t
   unfolding row_from total_field
   total_from_call t e =
       let anomaly = body_of (magnetic_constant kind) g.hessian m in

@@ -14,10 +14,10 @@ use Rattle.std.specs.Float.Ieee.Scale.{finite}
 use borrow.Author.Tests.{eq-eqb, eqb-true, le-leb, leb-true}
 use Rattle.doubles.specs.Constants.{0·0}
 use Rattle.doubles.specs.Magnitude.{within_limits}
-use Rattle.refusals.specs.Answer.{Answer, value, refused}
+use Rattle.std.specs.Prelude.{Ok, Err}
+use Rattle.refusals.specs.Answer.{Answer}
 use Rattle.refusals.specs.Causes.{or_else, unless}
 use Rattle.refusals.specs.declared.Refusal.TheVariants.{Malformed, TooMany, TooShort, OutOfLimits, TooThin, NotFinite}
-use Rattle.refusals.specs.declared.Cause.TheVariants.{None}
 use Rattle.refusals.proofs.Causes.{from_both, holds, passes, each, from_each}
 use Rattle.refusals.proofs.Causes as causes
 use Rattle.lists.specs.Count.{Below}
@@ -74,10 +74,10 @@ each_finite : (xs : List Float) → ((j : ℕ) → j < length xs → finite (get
 each_finite [] h = refl
 each_finite (x ∷ xs) h = and (finite x) (all_finite xs) (h 0 (omega arith)) (each_finite xs (λ j l. h (suc j) (omega arith)))
 
-none_row : (s : SheetInput) (i : ℕ) (a : Answer Row) → row_at s i ≡ a → row_cause s.kind i a ≡ None → FiniteRow s i
+none_row : (s : SheetInput) (i : ℕ) (a : Answer Row) → row_at s i ≡ a → row_cause s.kind i a ≡ Ok tt → FiniteRow s i
 unfolding row_cause is_finite_row
-none_row s i (value r) q h = record { row = r; given = q; numbers = finite_each (row_numbers s.kind r) (holds _ (NotFinite i) h) }
-none_row s i (refused r) q h = absurd (let z : ◌≡◌ {A = ℕ} 0 1 = cc in omega arith)
+none_row s i (Ok r) q h = record { row = r; given = q; numbers = finite_each (row_numbers s.kind r) (holds _ (NotFinite i) h) }
+none_row s i (Err r) q h = absurd (let z : ◌≡◌ {A = ℕ} 0 1 = cc in omega arith)
 
 -- ---- the body's causes, denied
 
@@ -101,7 +101,7 @@ no_edges (x ∷ f) e a b = absurd (omega arith)
 module _ (s : SheetInput) where
   -- ---- 1
 
-  pub none-malformed : malformed s ≡ None → (length s.vertices % 3 ≡ 0) × ((length s.faces % 3 ≡ 0) × ((length s.stations % 3 ≡ 0) × KindKnown s))
+  pub none-malformed : malformed s ≡ Ok tt → (length s.vertices % 3 ≡ 0) × ((length s.faces % 3 ≡ 0) × ((length s.stations % 3 ≡ 0) × KindKnown s))
   unfolding malformed known_kind
   none-malformed e =
       let k = s.kind in
@@ -120,35 +120,35 @@ module _ (s : SheetInput) where
   known-kind (inl e) = rw e
   known-kind (inr (e, (v, f))) = rw (prism_no_mesh s.kind e, e, eq-eqb (vertex_count s) 2 v, eq-eqb (face_count s) 0 f)
 
-  malformed-none : length s.vertices % 3 ≡ 0 → length s.faces % 3 ≡ 0 → length s.stations % 3 ≡ 0 → KindKnown s → malformed s ≡ None
+  malformed-none : length s.vertices % 3 ≡ 0 → length s.faces % 3 ≡ 0 → length s.stations % 3 ≡ 0 → KindKnown s → malformed s ≡ Ok tt
   unfolding malformed
   malformed-none p q r k = rw (eq-eqb (length s.vertices % 3) 0 p, eq-eqb (length s.faces % 3) 0 q, eq-eqb (length s.stations % 3) 0 r, known-kind k)
 
   -- ---- 2 and 12
 
-  pub none-many : too_many s ≡ None → (vertex_count s ≤ max_vertices) × ((face_count s ≤ max_faces) × (station_count s ≤ max_stations))
+  pub none-many : too_many s ≡ Ok tt → (vertex_count s ≤ max_vertices) × ((face_count s ≤ max_faces) × (station_count s ≤ max_stations))
   unfolding too_many
   none-many e =
       let t = counts_each (vertex_count s) (face_count s) (station_count s) (holds _ TooMany e) in
       (t.0, (t.1, t.2))
 
-  many-none : vertex_count s ≤ max_vertices → face_count s ≤ max_faces → station_count s ≤ max_stations → too_many s ≡ None
+  many-none : vertex_count s ≤ max_vertices → face_count s ≤ max_faces → station_count s ≤ max_stations → too_many s ≡ Ok tt
   unfolding too_many within_counts
   many-none p q r = rw (le-leb (vertex_count s) max_vertices p, le-leb (face_count s) max_faces q, le-leb (station_count s) max_stations r)
 
-  pub none_short : (w o : ℕ) → too_short s w o ≡ None → (length s.faces ≤ w) × (sheet_size s ≤ o)
+  pub none_short : (w o : ℕ) → too_short s w o ≡ Ok tt → (length s.faces ≤ w) × (sheet_size s ≤ o)
   unfolding too_short
   none_short w o e =
       let t = both (leb (length s.faces) w) (leb (sheet_size s) o) (holds _ TooShort e) in
       (leb-true _ _ t.0, leb-true _ _ t.1)
 
-  pub short_none : (w o : ℕ) → length s.faces ≤ w → sheet_size s ≤ o → too_short s w o ≡ None
+  pub short_none : (w o : ℕ) → length s.faces ≤ w → sheet_size s ≤ o → too_short s w o ≡ Ok tt
   unfolding too_short
   short_none w o p q = rw (le-leb (length s.faces) w p, le-leb (sheet_size s) o q)
 
   -- ---- 3
 
-  pub none_limits_all : out_of_limits s ≡ None → AllInLimits s.vertices × (VectorInLimits s.magnetisation × (VectorInLimits s.ambient × AllInLimits s.stations))
+  pub none_limits_all : out_of_limits s ≡ Ok tt → AllInLimits s.vertices × (VectorInLimits s.magnetisation × (VectorInLimits s.ambient × AllInLimits s.stations))
   unfolding out_of_limits
   none_limits_all e =
       let m = vector_within_limits s.magnetisation in
@@ -158,40 +158,40 @@ module _ (s : SheetInput) where
       let v = both m a (holds (m && a) OutOfLimits u.0) in
       (none_limits s.vertices [] t.0, (is_in_limits s.magnetisation v.0, (is_in_limits s.ambient v.1, none_limits s.stations [] u.1)))
 
-  limits_none-all : AllInLimits s.vertices → VectorInLimits s.magnetisation → VectorInLimits s.ambient → AllInLimits s.stations → out_of_limits s ≡ None
+  limits_none-all : AllInLimits s.vertices → VectorInLimits s.magnetisation → VectorInLimits s.ambient → AllInLimits s.stations → out_of_limits s ≡ Ok tt
   unfolding out_of_limits
   limits_none-all p m a q = rw (limits_none s.vertices [] p, limits_in s.magnetisation m, limits_in s.ambient a, limits_none s.stations [] q)
 
   -- ---- 4
 
-  pub none-vertex-all : no_such_vertex s ≡ None → Below s.faces (vertex_count s)
+  pub none-vertex-all : no_such_vertex s ≡ Ok tt → Below s.faces (vertex_count s)
   unfolding no_such_vertex
   none-vertex-all e = none-vertex s.vertices s.faces e
 
-  vertex-none-all : Below s.faces (vertex_count s) → no_such_vertex s ≡ None
+  vertex-none-all : Below s.faces (vertex_count s) → no_such_vertex s ≡ Ok tt
   unfolding no_such_vertex
   vertex-none-all h = vertex-none s.vertices s.faces h
 
   -- ---- 10, 11 and 13
 
-  pub none-station : (i : ℕ) → station_cause s i ≡ None → FiniteRow s i
+  pub none-station : (i : ℕ) → station_cause s i ≡ Ok tt → FiniteRow s i
   unfolding station_cause
   none-station i e = none_row s i (row_at s i) refl e
 
-  pub station-none : (i : ℕ) → FiniteRow s i → station_cause s i ≡ None
+  pub station-none : (i : ℕ) → FiniteRow s i → station_cause s i ≡ Ok tt
   unfolding station_cause row_cause is_finite_row
   station-none i h = rw h.given (passes (all_finite (row_numbers s.kind h.row)) (NotFinite i) (each_finite (row_numbers s.kind h.row) h.numbers))
 
   -- ---- 5 to 8, or 9
 
   -- 1 and 2 of the mesh alone
-  pub counted : malformed s ≡ None → too_many s ≡ None → Counted s.vertices s.faces (length s.faces)
+  pub counted : malformed s ≡ Ok tt → too_many s ≡ Ok tt → Counted s.vertices s.faces (length s.faces)
   counted p q =
       let m = none-malformed p in
       let n = none-many q in
       record { coordinates = m.0; corners = m.1.0; vertices = n.0; faces = n.1.0; room = le_refl (length s.faces) }
 
-  mesh-body : Counted s.vertices s.faces (length s.faces) → no_such_vertex s ≡ None → is_mesh s.kind ≡ true → body_cause s ≡ None → BodyFacts s
+  mesh-body : Counted s.vertices s.faces (length s.faces) → no_such_vertex s ≡ Ok tt → is_mesh s.kind ≡ true → body_cause s ≡ Ok tt → BodyFacts s
   unfolding body_cause no_such_vertex surface_cause volume
   mesh-body c v k e =
       let f = s.faces in
@@ -207,7 +207,7 @@ module _ (s : SheetInput) where
         side_z = λ z. absurd (two_kinds s.kind k z);
       }
 
-  pub body-mesh : Counted s.vertices s.faces (length s.faces) → Below s.faces (vertex_count s) → is_mesh s.kind ≡ true → BodyFacts s → body_cause s ≡ None
+  pub body-mesh : Counted s.vertices s.faces (length s.faces) → Below s.faces (vertex_count s) → is_mesh s.kind ≡ true → BodyFacts s → body_cause s ≡ Ok tt
   unfolding body_cause surface_cause volume
   body-mesh c i k h =
       let v = s.vertices in
@@ -220,7 +220,7 @@ module _ (s : SheetInput) where
       }) in
       rw k (causes.both (mesh.no_such_vertex (vertex_count s) f) _ e).1
 
-  prism-body : length s.faces % 3 ≡ 0 → is_prism s.kind ≡ true → face_count s ≡ 0 → body_cause s ≡ None → BodyFacts s
+  prism-body : length s.faces % 3 ≡ 0 → is_prism s.kind ≡ true → face_count s ≡ 0 → body_cause s ≡ Ok tt → BodyFacts s
   unfolding body_cause too_thin sides_within_limits side_within_limits
   prism-body c k n e =
       let lo = vertex s.vertices 0 in
@@ -239,13 +239,13 @@ module _ (s : SheetInput) where
         side_z = λ z. u.1;
       }
 
-  pub body-prism : is_prism s.kind ≡ true → BodyFacts s → body_cause s ≡ None
+  pub body-prism : is_prism s.kind ≡ true → BodyFacts s → body_cause s ≡ Ok tt
   unfolding body_cause too_thin sides_within_limits side_within_limits
   body-prism k h = rw (prism_no_mesh s.kind k, h.side_x k, h.side_y k, h.side_z k)
 
   -- ---- for the code: what the causes so far leave of the body, and the body's causes as the code finds them
 
-  pub body_of : malformed s ≡ None → too_many s ≡ None → no_such_vertex s ≡ None → Body s.vertices s.faces
+  pub body_of : malformed s ≡ Ok tt → too_many s ≡ Ok tt → no_such_vertex s ≡ Ok tt → Body s.vertices s.faces
   body_of p q r = is_body s.vertices s.faces (length s.faces) (counted p q) (none-vertex-all r)
 
   -- 4 to 8 of a mesh are `check_surface`'s
@@ -259,7 +259,7 @@ module _ (s : SheetInput) where
   prism-cause k n = rw (vertex-none-all (λ i l. absurd (not-suc-le-zero (subst (λ (m : ℕ). i < m) n l))), k)
 
   -- 1 leaves a mesh, or a prism with two vertices and no faces
-  pub not-mesh : malformed s ≡ None → is_mesh s.kind ≡ false → (is_prism s.kind ≡ true) × ((length s.vertices ≡ 6) × (length s.faces ≡ 0))
+  pub not-mesh : malformed s ≡ Ok tt → is_mesh s.kind ≡ false → (is_prism s.kind ≡ true) × ((length s.vertices ≡ 6) × (length s.faces ≡ 0))
   not-mesh e k =
       let m = none-malformed e in
       ⊎_elim (λ q. absurd (let z : true ≡ false = sym q ∙ k in true≢false z)) (λ q. (q.0, (omega (arith, m.0, q.1.0), omega (arith, m.1.0, q.1.1)))) m.1.1.1
@@ -267,7 +267,7 @@ module _ (s : SheetInput) where
   -- ---- all of them
 
   -- none of the writer's causes holds: then each is denied
-  pub no_cause : (w o : ℕ) → writer_cause s w o ≡ None → NoCause s w o
+  pub no_cause : (w o : ℕ) → writer_cause s w o ≡ Ok tt → NoCause s w o
   unfolding writer_cause
   no_cause w o e =
       let a = causes.both (malformed s) _ e in
@@ -307,13 +307,13 @@ module _ (s : SheetInput) where
       }
 
   -- each is denied: then none of them holds
-  pub cause-none : (w o : ℕ) → NoCause s w o → writer_cause s w o ≡ None
+  pub cause-none : (w o : ℕ) → NoCause s w o → writer_cause s w o ≡ Ok tt
   unfolding writer_cause
   cause-none w o h =
       let c : Counted s.vertices s.faces (length s.faces) =
       record { coordinates = h.coordinates; corners = h.corners; vertices = h.vertices; faces = h.faces; room = le_refl (length s.faces) } in
       let facts : BodyFacts s = record { once = h.once; back = h.back; normals = h.normals; positive = h.positive; side_x = h.side_x; side_y = h.side_y; side_z = h.side_z } in
-      let solid : body_cause s ≡ None = ⊎_elim (λ k. body-mesh c h.inside k facts) (λ k. body-prism k.0 facts) h.known in
+      let solid : body_cause s ≡ Ok tt = ⊎_elim (λ k. body-mesh c h.inside k facts) (λ k. body-prism k.0 facts) h.known in
       rw (
         malformed-none h.coordinates h.corners h.triples h.known,
         many-none h.vertices h.faces h.stations,

@@ -1,4 +1,5 @@
-// Numbers in lent bytes, lowest byte first: u32, u64 and f64, one at a time and in runs.
+// Numbers in lent bytes, lowest byte first: u32, u64 and f64, one at a time and in runs. A place is an argument beside the bytes: callers compute each anew, so that
+// nothing would be kept in a cursor.
 #![tactic(auto)]
 
 ghost use Rattle.std.specs.Prelude.{◌≡◌, ℕ, ◌+◌, ◌*◌, ◌^◌, ◌≤◌, ◌<◌, map, length, replicate, refl, T};
@@ -51,6 +52,7 @@ impl Stored for u32 {
 
     const SIZE: usize = 4;
 
+    #[tactic(auto, using(crate::proofs::Numbers::from_four))]
     fn at(s: &[u8], i: usize) -> u32 {
         u32::from_le_bytes([s[i], s[i + 1], s[i + 2], s[i + 3]])
     }
@@ -77,6 +79,7 @@ impl Stored for u64 {
 
     const SIZE: usize = 8;
 
+    #[tactic(auto, using(crate::proofs::Numbers::number_eight))]
     fn at(s: &[u8], i: usize) -> u64 {
         u64::from(u32::at(s, i)) + 0x1_0000_0000 * u64::from(u32::at(s, i + 4))
     }
@@ -110,6 +113,7 @@ impl Stored for f64 {
 }
 
 // Reads as many numbers as xs holds, from place at on.
+#[tactic(auto, unfolding(crate::specs::LittleEndian::unpack))]
 pub fn read_all<T: Stored>(s: &[u8], at: usize, xs: &mut [T])
     requires { at + T.SIZE * length xs.old ≤ length s.now }
     ensures { xs.new ≡ map T.of_number (unpack T.SIZE (length xs.old) s.now at) }
@@ -120,6 +124,7 @@ pub fn read_all<T: Stored>(s: &[u8], at: usize, xs: &mut [T])
 }
 
 // Writes the numbers xs from place at on.
+#[tactic(auto, unfolding(crate::specs::LittleEndian::pack))]
 pub fn put_all<T: Stored>(s: &mut [u8], at: usize, xs: &[T])
     requires { at + T.SIZE * length xs.now ≤ length s.old }
     ensures { s.new ≡ sets s.old at (pack T.SIZE (map T.as_number xs.now)) }
@@ -128,6 +133,8 @@ pub fn put_all<T: Stored>(s: &mut [u8], at: usize, xs: &[T])
         x.put(s, at + T::SIZE * i);
     }
 }
+
+// ---- By type. The contracts speak of numbers and bytes, and not of the words of `Stored`, which callers would have to open at each use.
 
 // The u32 at place i.
 pub fn u32_at(s: &[u8], i: usize) -> u32

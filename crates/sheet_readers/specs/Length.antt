@@ -3,7 +3,7 @@
 use Rattle.std.specs.Prelude.{◌≡◌, Bool, true, false, ◌&&◌, List, ℕ, ◌%◌, eqb, length}
 use Rattle.std.proofs.Common.{sym, ◌∙◌}
 use Rattle.refusals.specs.declared.Refusal.TheVariants.{Malformed, TooMany}
-use Rattle.refusals.specs.declared.Cause.TheVariants.{None}
+use Rattle.std.specs.Prelude.{Ok}
 use Rattle.refusals.proofs.Causes.{both, holds}
 use Rattle.sheet_rows.specs.Kinds.{known_kind, within_counts}
 use Rattle.sheet.specs.Input.{SheetInput, vertex_count, face_count, station_count}
@@ -20,7 +20,7 @@ last true true false w e = cc
 last true false v w e = cc
 last false u v w e = cc
 
-pub length_of_input : (s : SheetInput) → malformed s ≡ None → too_many s ≡ None → length_of s.kind (vertex_count s) (face_count s) (station_count s) ≡ sheet_size s
+pub length_of_input : (s : SheetInput) → malformed s ≡ Ok tt → too_many s ≡ Ok tt → length_of s.kind (vertex_count s) (face_count s) (station_count s) ≡ sheet_size s
 unfolding malformed too_many length_of
 length_of_input s e u =
     let k : known_kind s.kind (vertex_count s) (face_count s) ≡ true =
@@ -28,7 +28,7 @@ length_of_input s e u =
     let w : within_counts (vertex_count s) (face_count s) (station_count s) ≡ true = holds _ TooMany u in
     rw (k, w)
 
-pub length_of-bytes : (b : List ℕ) → opening_cause b ≡ None → length_of (kind_in b) (vertices_in b) (faces_in b) (stations_in b) ≡ length b
+pub length_of-bytes : (b : List ℕ) → opening_cause b ≡ Ok tt → length_of (kind_in b) (vertices_in b) (faces_in b) (stations_in b) ≡ length b
 unfolding opening_cause
 length_of-bytes b e =
     let a = both (wrong_length b) _ e in

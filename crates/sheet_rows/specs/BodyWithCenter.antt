@@ -1,10 +1,9 @@
 -- What `row_at` is handed of a body that was checked: its vertices `v` and faces `f`, and the center `c`, taken once for all stations. Definitions only.
 use Rattle.std.specs.Prelude.{◌≡◌, true, false, cond, List, ℕ, ◌≤◌, Float, length}
 use Rattle.doubles.specs.Constants.{0·0}
-use Rattle.newtonian.specs.declared.Vector.{Vector}
 use Rattle.mesh.specs.Surface.{Body}
 use Rattle.polyhedron_centroid.specs.Centroid.{centroid, radius}
-use Rattle.sheet_rows.specs.declared.Center.{Center}
+use Rattle.polyhedron_centroid.specs.declared.Center.{Center}
 use Rattle.sheet_rows.specs.Kinds.{is_mesh}
 
 -- a mesh's center is its centroid and radius; a prism has none, and gets zeros

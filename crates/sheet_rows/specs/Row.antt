@@ -2,11 +2,11 @@
 -- those three. The magnetic constant and the rule for the longest axis go by the sheet's kind. `v` is the vertex list and `f` the face list. Definitions only.
 use Rattle.std.specs.Prelude.{Bool, true, ◌&&◌, cond, List, [], ◌∷◌, ℕ, Float}
 use Rattle.std.specs.Float.Ieee.Scale.{finite}
-use Rattle.refusals.specs.Answer.{Answer, value, refused}
+use Rattle.std.specs.Prelude.{Ok, Err}
+use Rattle.refusals.specs.Answer.{Answer}
+use Rattle.refusals.specs.Causes.{Cause}
 use Rattle.refusals.specs.Causes.{unless}
 use Rattle.refusals.specs.declared.Refusal.TheVariants.{NotFinite}
-use Rattle.refusals.specs.declared.Cause.{Cause}
-use Rattle.refusals.specs.declared.Cause.TheVariants.{Refused}
 use Rattle.newtonian.specs.declared.Vector.{Vector}
 use Rattle.newtonian.specs.declared.Newtonian.{Newtonian}
 use Rattle.mesh.specs.Surface.{vertex}
@@ -15,8 +15,6 @@ use Rattle.polyhedron.specs.Polyhedron.{polyhedron_at}
 use Rattle.anomaly.specs.Body.{body_of}
 use Rattle.anomaly.specs.TotalField.{total_field_of}
 use Rattle.sheet_rows.specs.declared.Row.{Row}
-use Rattle.sheet_rows.specs.declared.RowAnswer.{RowAnswer}
-use Rattle.sheet_rows.specs.declared.RowAnswer as answers
 use Rattle.sheet_rows.specs.Kinds.{is_mesh, axis_rule, magnetic_constant}
 
 -- ---- the row
@@ -32,8 +30,8 @@ row_from kind m b g =
     record { field = g; anomaly = anomaly; total = total_field_of b anomaly }
 
 abbrev pub in_row : ℕ → Vector → Vector → Answer Newtonian → Answer Row
-in_row kind m b (value g) = value (row_from kind m b g)
-in_row kind m b (refused r) = refused r
+in_row kind m b (Ok g) = Ok (row_from kind m b g)
+in_row kind m b (Err r) = Err r
 
 -- the row, or the field's refusal, which is 10 or 11
 unfoldable pub row_at : ℕ → Vector → Vector → ℕ → Vector → List Float → List ℕ → Answer Row
@@ -56,10 +54,5 @@ unfoldable pub is_finite_row : ℕ → Row → Bool
 is_finite_row kind r = all_finite (row_numbers kind r)
 
 unfoldable pub row_cause : ℕ → ℕ → Answer Row → Cause
-row_cause kind i (refused r) = Refused r
-row_cause kind i (value r) = unless (is_finite_row kind r) (NotFinite i)
-
--- the answer of each case of `RowAnswer`
-abbrev pub answer_of : RowAnswer → Answer Row
-answer_of (answers.TheVariants.At r) = value r
-answer_of (answers.TheVariants.Refused r) = refused r
+row_cause kind i (Err r) = Err r
+row_cause kind i (Ok r) = unless (is_finite_row kind r) (NotFinite i)

@@ -1,5 +1,6 @@
 // The kinds of a sheet, what each decides, and the limits on a sheet's counts. A kind stays the number that C's callers pass and a sheet's bytes hold: an enum would be made
-// anew at each call, and of it the definitions, which speak of any number, say nothing.
+// anew at each call, and of it the definitions, which speak of any number, say nothing. The counts stay
+// numbers side by side: a caller has them from lists, from a sheet's bytes or from C, and not together.
 ghost use Rattle.std.specs.Prelude.{◌≡◌, ◌*◌};
 ghost use Rattle.sheet_rows.specs.Kinds.{is_mesh, is_prism, known_kind, row_width, axis_rule, magnetic_constant, within_counts};
 

@@ -1,25 +1,28 @@
-// The row of a station.
+// The row of a station. A kind stays its number (kinds.rt). Vertices, faces and order list stay lists, since they are a `Mesh` of one kind alone: a prism's are its two
+// corners and no face.
 #![tactic(auto)]
 
 pub mod kinds;
 
 ghost use Rattle.std.specs.Prelude.{◌≡◌, true, ℕ, ◌+◌, ◌≤◌, ◌<◌, length, get_or};
-ghost use Rattle.newtonian.specs.Field as newtonian;
 ghost use Rattle.mesh_orders.specs.Order.{order_list};
-ghost use Rattle.mesh_orders.specs.Edges.{2³²};
 ghost use Rattle.mesh.specs.Surface.{Body, vertex};
-ghost use Rattle.polyhedron_blocks.specs.Blocks.{block_size, no_vector};
+ghost use Rattle.polyhedron_blocks.specs.Blocks.{no_vector};
 ghost use Rattle.polyhedron_fields.specs.BlockFields.{no_field};
 ghost use Rattle.prism.specs.Prism.{prism_at};
 ghost use Rattle.sheet_rows.specs.Kinds.{is_mesh, axis_rule};
-ghost use Rattle.sheet_rows.specs.Row.{row_from, in_row, row_numbers, all_finite, is_finite_row, row_cause, answer_of};
+ghost use Rattle.sheet_rows.specs.Row.{row_from, in_row, row_numbers, all_finite, is_finite_row, row_cause};
 ghost use Rattle.sheet_rows.specs.StationFields.{StationFields};
 ghost use Rattle.sheet_rows.specs.BodyWithCenter.{center_of, BodyWithCenter};
 
 use crate::kinds::PLAIN_WIDTH;
-use newtonian::{Field, Newtonian, Vector};
+use mesh::surface::Mesh;
+use newtonian::{Newtonian, Vector};
 use polyhedron_blocks::STATIONS;
-use refusals::{Cause, Refusal};
+pub use polyhedron_centroid::Center;
+use polyhedron_fields::stations::StationRange;
+use prism_corner_sums::Bounds;
+use refusals::Refusal;
 
 // The field, what the magnetisation adds to the ambient field, and the total field's anomaly.
 #[derive(Clone, Copy)]
@@ -29,31 +32,13 @@ pub struct Row {
     pub total: f64,
 }
 
-// The row, or a refusal.
-#[derive(Clone, Copy)]
-pub enum RowAnswer {
-    At(Row),
-    Refused(Refusal),
-}
-
-// A mesh's centroid and radius, which are the same for every station.
-#[derive(Clone, Copy)]
-pub struct Center {
-    pub centroid: Vector,
-    pub radius: f64,
-}
-
 // Taken once for all stations. A prism has none, and gets zeros.
 pub fn center_of(kind: u32, verts: &[f64], faces: &[u32], order: &[u32]) -> Center
     requires { is_mesh kind ≡ true → Body verts.now faces.now × (order.now ≡ order_list faces.now) }
     ensures { result ≡ center_of kind verts.now faces.now }
 {
     if kinds::is_mesh(kind) {
-        let c = polyhedron_centroid::centroid(verts, faces, order);
-        return Center {
-            centroid: c,
-            radius: polyhedron_centroid::radius(c, verts, faces, order),
-        };
+        return Center::of(Mesh { verts, faces }, order);
     }
     Center {
         centroid: Vector {
@@ -65,51 +50,43 @@ pub fn center_of(kind: u32, verts: &[f64], faces: &[u32], order: &[u32]) -> Cent
     }
 }
 
-// The fields of a prism at n stations, of which the first has the number first.
+// The fields of a prism at a block of stations.
 fn prism_fields(
     kind: u32,
-    first: usize,
-    n: usize,
-    places: [Vector; STATIONS],
+    stations: &StationRange,
     verts: &[f64],
-) -> [Field; STATIONS]
-    requires { (6 ≤ length verts.now) × (n ≤ block_size) × (first + n ≤ 2³²) }
-    ensures { (j : ℕ) → j < n → newtonian.answer_of (get_or result j no_field) ≡
-        prism_at (axis_rule kind) (first + j) (get_or places j no_vector) (vertex verts.now 0) (vertex verts.now 1) }
+) -> [Result<Newtonian, Refusal>; STATIONS]
+    requires { 6 ≤ length verts.now }
+    ensures { let s = stations.now in (j : ℕ) → j < s.n → (get_or result j no_field) ≡
+        prism_at (axis_rule kind) (s.first + j) (get_or s.places j no_vector) (vertex verts.now 0) (vertex verts.now 1) }
 {
-    let lo = mesh::surface::vertex(verts, 0);
-    let hi = mesh::surface::vertex(verts, 1);
+    let bounds = Bounds {
+        lo: mesh::surface::vertex(verts, 0),
+        hi: mesh::surface::vertex(verts, 1),
+    };
+    let rule = kinds::axis_rule(kind);
     let mut out = polyhedron_fields::no_fields();
-    for j in 0..n {
-        let a = prism::prism_at(
-            kinds::axis_rule(kind),
-            (first + j) as u32,
-            places[j],
-            lo,
-            hi,
-        );
-        out[j] = a;
+    for (j, answer) in out[..stations.n].iter_mut().enumerate() {
+        *answer = prism::prism_at(rule, stations.number(j), stations.places[j], bounds);
     }
     out
 }
 
-// The fields at up to eight stations, n of them, of which the first has the number first.
+// The fields at a block of stations.
 pub fn fields_at(
     kind: u32,
-    first: usize,
-    n: usize,
-    places: [Vector; STATIONS],
+    stations: &StationRange,
     c: Center,
     verts: &[f64],
     faces: &[u32],
-) -> [Field; STATIONS]
-    requires { BodyWithCenter kind c verts.now faces.now × (n ≤ block_size) × (first + n ≤ 2³²) }
-    ensures { StationFields kind first n places verts.now faces.now result }
+) -> [Result<Newtonian, Refusal>; STATIONS]
+    requires { BodyWithCenter kind c verts.now faces.now }
+    ensures { let s = stations.now in StationFields kind s.first s.n s.places verts.now faces.now result }
 {
     if kinds::is_mesh(kind) {
-        return polyhedron_fields::fields_of(first, n, places, c.centroid, c.radius, verts, faces);
+        return polyhedron_fields::fields_of(stations, c, Mesh { verts, faces });
     }
-    prism_fields(kind, first, n, places, verts)
+    prism_fields(kind, stations, verts)
 }
 
 fn row_from(kind: u32, magnetisation: Vector, ambient: Vector, field: Newtonian) -> Row
@@ -125,16 +102,19 @@ fn row_from(kind: u32, magnetisation: Vector, ambient: Vector, field: Newtonian)
 }
 
 // The row of a field, or the field's refusal.
-pub fn row_of(kind: u32, magnetisation: Vector, ambient: Vector, field: Field) -> RowAnswer
-    ensures { answer_of result ≡ in_row kind magnetisation ambient (newtonian.answer_of field) }
+pub fn row_of(
+    kind: u32,
+    magnetisation: Vector,
+    ambient: Vector,
+    field: Result<Newtonian, Refusal>,
+) -> Result<Row, Refusal>
+    ensures { result ≡ in_row kind magnetisation ambient field }
 {
-    match field {
-        Field::At(g) => RowAnswer::At(row_from(kind, magnetisation, ambient, g)),
-        Field::Refused(r) => RowAnswer::Refused(r),
-    }
+    Ok(row_from(kind, magnetisation, ambient, field?))
 }
 
 // The numbers that the sheet holds of a row.
+#[tactic(auto, unfolding(crate::specs::Row::row_numbers))]
 pub fn row_numbers(kind: u32, row: Row) -> [f64; PLAIN_WIDTH]
     ensures { result ≡ row_numbers kind row }
 {
@@ -157,16 +137,12 @@ pub fn is_finite_row(kind: u32, row: Row) -> bool
 }
 
 // 10 or 11, then 13, of station i.
-pub fn row_cause(kind: u32, i: u32, a: RowAnswer) -> Cause
-    ensures { result ≡ row_cause kind i (answer_of a) }
+#[tactic(auto, unfolding(crate::specs::Row::row_cause))]
+pub fn row_cause(kind: u32, i: u32, a: Result<Row, Refusal>) -> Result<(), Refusal>
+    ensures { result ≡ row_cause kind i a }
 {
-    match a {
-        RowAnswer::Refused(r) => Cause::Refused(r),
-        RowAnswer::At(row) => {
-            if is_finite_row(kind, row) {
-                return Cause::None;
-            }
-            Cause::Refused(Refusal::NotFinite(i))
-        }
+    if is_finite_row(kind, a?) {
+        return Ok(());
     }
+    Err(Refusal::NotFinite(i))
 }

@@ -6,7 +6,6 @@ use Rattle.doubles.specs.Constants.{0·0}
 use Rattle.refusals.specs.Causes.{unless}
 use Rattle.refusals.specs.Answer.{Answer, or_answer}
 use Rattle.refusals.specs.declared.Refusal.TheVariants.{OutsideDomain}
-use Rattle.carlson.specs.Answers.{integral_answer}
 use Rattle.special_rf_rd.specs.Rf.{rf}
 use Rattle.special_rf_rd.specs.Rd.{rd}
 use Rattle.special_rj.specs.Rj.{rj}
@@ -21,10 +20,10 @@ unfoldable pub in_domain : Float → Float → Float → Bool
 in_domain x y z = finite_not_below_zero x && finite_not_below_zero y && finite_not_below_zero z && not (more_than_one_zero x y z)
 
 unfoldable pub carlson_rf : Float → Float → Float → Answer Float
-carlson_rf x y z = or_answer (unless (in_domain x y z) OutsideDomain) (integral_answer (rf x y z))
+carlson_rf x y z = or_answer (unless (in_domain x y z) OutsideDomain) (rf x y z)
 
 unfoldable pub carlson_rd : Float → Float → Float → Answer Float
-carlson_rd x y z = or_answer (unless (in_domain x y z && lt 0·0 z) OutsideDomain) (integral_answer (rd x y z))
+carlson_rd x y z = or_answer (unless (in_domain x y z && lt 0·0 z) OutsideDomain) (rd x y z)
 
 unfoldable pub carlson_rj : Float → Float → Float → Float → Answer Float
-carlson_rj x y z p = or_answer (unless (in_domain x y z && finite p) OutsideDomain) (integral_answer (rj x y z p))
+carlson_rj x y z p = or_answer (unless (in_domain x y z && finite p) OutsideDomain) (rj x y z p)

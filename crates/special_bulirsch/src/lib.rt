@@ -1,4 +1,4 @@
-// Bulirsch's general complete elliptic integral, without the tests of its domain.
+// Bulirsch's general complete elliptic integral, without the tests of its domain. Arguments stay as the papers write them, one by one.
 #![tactic(auto)]
 
 ghost use Rattle.std.specs.Prelude.{◌≡◌};
@@ -21,6 +21,7 @@ pub struct Bulirsch {
 }
 
 // The first half of a round.
+#[tactic(auto, unfolding(crate::specs::Bulirsch::first_half))]
 fn first_half(s: Bulirsch) -> Bulirsch
     ensures { result ≡ first_half s }
 {
@@ -37,6 +38,7 @@ fn first_half(s: Bulirsch) -> Bulirsch
 }
 
 // The second half.
+#[tactic(auto, unfolding(crate::specs::Bulirsch::second_half))]
 fn second_half(s: Bulirsch) -> Bulirsch
     ensures { result ≡ second_half s }
 {
@@ -49,18 +51,21 @@ fn second_half(s: Bulirsch) -> Bulirsch
 }
 
 // The second half of a round and the first of the next.
+#[tactic(auto, unfolding(crate::specs::Bulirsch::turn))]
 fn turn(s: Bulirsch) -> Bulirsch
     ensures { result ≡ turn s }
 {
     first_half(second_half(s))
 }
 
+#[tactic(auto, unfolding(crate::specs::Bulirsch::cel_test))]
 fn cel_test(s: Bulirsch) -> bool
     ensures { result ≡ cel_test s }
 {
     !(doubles::abs(s.previous - s.kc) <= s.previous * 1e-15)
 }
 
+#[tactic(auto, unfolding(crate::specs::Bulirsch::cel_end))]
 fn cel_end(s: Bulirsch) -> f64
     ensures { result ≡ cel_end s }
 {

@@ -5,7 +5,7 @@ use Rattle.std.specs.Float.Ieee.{neg, lt, le, eq, is_nan}
 use Rattle.doubles.specs.Rounded.{◌⊕◌, ◌⊖◌, ◌⊗◌, ◌⊘◌}
 use Rattle.doubles.specs.Constants.{0·0, 1·0}
 use Rattle.doubles.specs.Magnitude.{abs}
-use Rattle.carlson.specs.declared.Integral.TheVariants.{Value}
+use Rattle.std.specs.Prelude.{Ok}
 use Rattle.carlson.specs.Rc.{QC, test_c, duplications_c, rc, rc_value}
 use Rattle.carlson.specs.Logarithm.{fraction, midpoint}
 
@@ -29,4 +29,4 @@ atan2_rounds s c = cond (is_nan s || is_nan c || eq s 0·0 || eq c 0·0) 0 (atan
 pub record WithinSix (x y : Float) : Type 0 where
   pub at-most_six : rc_rounds x y ≤ 6
   pub ended : test_c (QC x y) (duplications_c x y) ≡ false
-  pub answered : rc x y ≡ Value (rc_value x y)
+  pub answered : rc x y ≡ Ok (rc_value x y)

@@ -12,8 +12,8 @@ use Rattle.doubles.specs.ConstantsAreNearest.{◌over◌}
 use Rattle.doubles.specs.Constants.{0·0, 0·5, 1·0, 2·0, 3·0, 4·0, 5·0, 10⁻¹⁴, π, LN2}
 use Rattle.doubles.specs.Magnitude.{abs, max, min}
 use Rattle.roots.specs.Root.{Root}
-use Rattle.carlson.specs.declared.Integral.{Integral}
-use Rattle.carlson.specs.declared.Integral.TheVariants.{Value, Refused}
+use Rattle.std.specs.Prelude.{Ok, Err}
+use Rattle.refusals.specs.Answer.{Answer}
 use Rattle.carlson.specs.Rounds.{rounds_from}
 use Rattle.carlson.specs.CarlsonLoop.{quarter, loop_test}
 use Rattle.carlson.specs.Rc.{duplicate_c, duplications_c, series_c, rc_above, rc, rc_or}
@@ -29,7 +29,7 @@ use Rattle.rings.specs.declared.RingAverage.{RingAverage}
 use Rattle.special_bulirsch.specs.Bulirsch.{first_half, second_half, turn, cel_test, cel_end, cel_of}
 use Rattle.special_laws.specs.RoundsTaken.{rc_rounds, atan_rounds}
 
-pub rc-is_π : rc 0·0 (fin false 1 (negsuc 1)) ≡ Value π
+pub rc-is_π : rc 0·0 (fin false 1 (negsuc 1)) ≡ Ok π
 unfolding rc rc_above duplications_c rounds_from duplicate_c quarter loop_test series_c abs Root of_bits add sub mul div lt le eq
 rc-is_π = refl
 
@@ -96,24 +96,24 @@ has_digits (fin t m e) s n k = let a = 2 * m * up e * 10 ^ k in let b = 2 * n * 
 
 -- an integral and its decimal value: whether it is below zero, the digits with no point, and how many of them come after the point
 pub record CheckValue : Type 0 where
-  pub integral : Integral
+  pub integral : Answer Float
   pub below-zero : Bool
   pub digits : ℕ
   pub places : ℕ
 
-abbrev value_has_digits : Integral → Bool → ℕ → ℕ → Bool
-value_has_digits (Value x) s n k = has_digits x s n k
-value_has_digits (Refused r) s n k = false
+abbrev value_has_digits : Answer Float → Bool → ℕ → ℕ → Bool
+value_has_digits (Ok x) s n k = has_digits x s n k
+value_has_digits (Err r) s n k = false
 
 pub all_agree : List CheckValue → Bool
 all_agree [] = true
 all_agree (c ∷ cs) = value_has_digits c.integral c.below-zero c.digits c.places && all_agree cs
 
 infix 30 ◌is◌over10^◌ ◌is-minus◌over10^◌
-abbrev ◌is◌over10^◌ : Integral → ℕ → ℕ → CheckValue
+abbrev ◌is◌over10^◌ : Answer Float → ℕ → ℕ → CheckValue
 i is n over10^ k = record { integral = i; below-zero = false; digits = n; places = k }
 
-abbrev ◌is-minus◌over10^◌ : Integral → ℕ → ℕ → CheckValue
+abbrev ◌is-minus◌over10^◌ : Answer Float → ℕ → ℕ → CheckValue
 i is-minus n over10^ k = record { integral = i; below-zero = true; digits = n; places = k }
 
 pub rf-rc-rd_check_values :

@@ -8,8 +8,8 @@ use Rattle.roots.specs.Root.{Root}
 use Rattle.refusals.specs.declared.Refusal.TheVariants.{TooManyRounds}
 use Rattle.carlson.specs.CarlsonLoop.{max_rounds, quarter, loop_test}
 use Rattle.carlson.specs.Rounds.{rounds}
-use Rattle.carlson.specs.declared.Integral.{Integral}
-use Rattle.carlson.specs.declared.Integral.TheVariants.{Value, Refused}
+use Rattle.std.specs.Prelude.{Ok, Err}
+use Rattle.refusals.specs.Answer.{Answer}
 use Rattle.special_rf_rd.specs.Constants.{[ε/4]^-⅙}
 use Rattle.special_rf_rd.specs.Duplication.{λₙ, max_distance, X, cube, series}
 use Rattle.special_rf_rd.specs.declared.RoundD.{RoundD}
@@ -47,9 +47,9 @@ unfoldable pub duplications_d : Float → Float → Float → RoundD
 duplications_d x y z = rounds (test_d (QD x y z)) duplicate_d max_rounds (record { x = x; y = y; z = z; a = A₀D x y z; f = 1·0; sum = 0·0 })
 
 -- 4⁻ⁿ Aₙ^(-3/2) times the series at X and Y, and three times the sum; refused where the test still holds
-unfoldable pub rd : Float → Float → Float → Integral
+unfoldable pub rd : Float → Float → Float → Answer Float
 rd x y z =
     let s = duplications_d x y z in
     let at : Float → Float = λ (w : Float). X (A₀D x y z) w s.f s.a in
-    cond (test_d (QD x y z) s) (Refused TooManyRounds)
-    (Value (s.f ⊘ (s.a ⊗ Root s.a) ⊗ series_d (at x) (at y) ⊕ 3·0 ⊗ s.sum))
+    cond (test_d (QD x y z) s) (Err TooManyRounds)
+    (Ok (s.f ⊘ (s.a ⊗ Root s.a) ⊗ series_d (at x) (at y) ⊕ 3·0 ⊗ s.sum))

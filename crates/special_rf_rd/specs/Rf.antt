@@ -8,8 +8,8 @@ use Rattle.roots.specs.Root.{Root}
 use Rattle.refusals.specs.declared.Refusal.TheVariants.{TooManyRounds}
 use Rattle.carlson.specs.CarlsonLoop.{max_rounds, quarter, loop_test}
 use Rattle.carlson.specs.Rounds.{rounds}
-use Rattle.carlson.specs.declared.Integral.{Integral}
-use Rattle.carlson.specs.declared.Integral.TheVariants.{Value, Refused}
+use Rattle.std.specs.Prelude.{Ok, Err}
+use Rattle.refusals.specs.Answer.{Answer}
 use Rattle.special_rf_rd.specs.Constants.{[3ε]^-⅙, 14·0, 44·0}
 use Rattle.special_rf_rd.specs.Duplication.{λₙ, max_distance, X}
 use Rattle.special_rf_rd.specs.declared.RoundF.{RoundF}
@@ -42,8 +42,8 @@ unfoldable pub duplications_f : Float → Float → Float → RoundF
 duplications_f x y z = rounds (test_f (QF x y z)) duplicate_f max_rounds (record { x = x; y = y; z = z; a = A₀F x y z; f = 1·0 })
 
 -- the series at X and Y over √Aₙ; refused where the test still holds
-unfoldable pub rf : Float → Float → Float → Integral
+unfoldable pub rf : Float → Float → Float → Answer Float
 rf x y z =
     let s = duplications_f x y z in
     let at : Float → Float = λ (w : Float). X (A₀F x y z) w s.f s.a in
-    cond (test_f (QF x y z) s) (Refused TooManyRounds) (Value (series_f (at x) (at y) ⊘ Root s.a))
+    cond (test_f (QF x y z) s) (Err TooManyRounds) (Ok (series_f (at x) (at y) ⊘ Root s.a))

@@ -1,4 +1,4 @@
-// Carlson's symmetric elliptic integrals R_F and R_D, and what they share with R_J.
+// Carlson's symmetric elliptic integrals R_F and R_D, and what they share with R_J. Arguments stay as the papers write them, one by one.
 #![tactic(auto)]
 
 ghost use Rattle.std.specs.Prelude.{◌≡◌};
@@ -7,7 +7,6 @@ ghost use Rattle.special_rf_rd.specs.Duplication.{max_distance, series};
 ghost use Rattle.special_rf_rd.specs.Rf.{duplicate_f, series_f, rf};
 ghost use Rattle.special_rf_rd.specs.Rd.{duplicate_d, series_d, rd};
 
-use carlson::Integral;
 use refusals::Refusal;
 
 // (3ε)^(-1/6)
@@ -39,6 +38,7 @@ pub struct RoundD {
 }
 
 // The largest distance of x, y and z from Carlson's A at round 0.
+#[tactic(auto, unfolding(crate::specs::Duplication::max_distance))]
 fn max_distance(a0: f64, x: f64, y: f64, z: f64) -> f64
     ensures { result ≡ max_distance a0 x y z }
 {
@@ -56,6 +56,7 @@ pub fn lambda(sx: f64, sy: f64, sz: f64) -> f64
 }
 
 // The series that ends R_D and R_J.
+#[tactic(auto, unfolding(crate::specs::Duplication::series))]
 pub fn series(e2: f64, e3: f64, e4: f64, e5: f64) -> f64
     ensures { result ≡ series e2 e3 e4 e5 }
 {
@@ -66,6 +67,7 @@ pub fn series(e2: f64, e3: f64, e4: f64, e5: f64) -> f64
 // ---- R_F
 
 // From round n to n + 1.
+#[tactic(auto, unfolding(crate::specs::Rf::duplicate_f, carlson::specs::CarlsonLoop::quarter))]
 fn duplicate_f(s: RoundF) -> RoundF
     ensures { result ≡ duplicate_f s }
 {
@@ -80,6 +82,7 @@ fn duplicate_f(s: RoundF) -> RoundF
 }
 
 // The series that ends R_F, at Carlson's X and Y.
+#[tactic(auto, unfolding(crate::specs::Rf::series_f))]
 fn series_f(dx: f64, dy: f64) -> f64
     ensures { result ≡ series_f dx dy }
 {
@@ -90,7 +93,7 @@ fn series_f(dx: f64, dy: f64) -> f64
 }
 
 // R_F(x, y, z) without the tests of its domain: what inner calls use.
-pub fn rf(x: f64, y: f64, z: f64) -> Integral
+pub fn rf(x: f64, y: f64, z: f64) -> Result<f64, Refusal>
     ensures { result ≡ rf x y z }
 {
     let a0 = (x + y + z) / 3.0;
@@ -109,14 +112,15 @@ pub fn rf(x: f64, y: f64, z: f64) -> Integral
         first,
     );
     if carlson::loop_test(q, s.a, s.f) {
-        return Integral::Refused(Refusal::TooManyRounds);
+        return Err(Refusal::TooManyRounds);
     }
-    Integral::Value(series_f((a0 - x) * s.f / s.a, (a0 - y) * s.f / s.a) / roots::root(s.a))
+    Ok(series_f((a0 - x) * s.f / s.a, (a0 - y) * s.f / s.a) / roots::root(s.a))
 }
 
 // ---- R_D
 
 // From round n to n + 1.
+#[tactic(auto, unfolding(crate::specs::Rd::duplicate_d, carlson::specs::CarlsonLoop::quarter))]
 fn duplicate_d(s: RoundD) -> RoundD
     ensures { result ≡ duplicate_d s }
 {
@@ -133,6 +137,7 @@ fn duplicate_d(s: RoundD) -> RoundD
 }
 
 // The series that ends R_D, at Carlson's X and Y.
+#[tactic(auto, unfolding(crate::specs::Rd::series_d))]
 fn series_d(dx: f64, dy: f64) -> f64
     ensures { result ≡ series_d dx dy }
 {
@@ -146,7 +151,7 @@ fn series_d(dx: f64, dy: f64) -> f64
 }
 
 // R_D(x, y, z) without the tests of its domain: what inner calls use.
-pub fn rd(x: f64, y: f64, z: f64) -> Integral
+pub fn rd(x: f64, y: f64, z: f64) -> Result<f64, Refusal>
     ensures { result ≡ rd x y z }
 {
     let a0 = (x + y + 3.0 * z) / 5.0;
@@ -166,9 +171,9 @@ pub fn rd(x: f64, y: f64, z: f64) -> Integral
         first,
     );
     if carlson::loop_test(q, s.a, s.f) {
-        return Integral::Refused(Refusal::TooManyRounds);
+        return Err(Refusal::TooManyRounds);
     }
-    Integral::Value(
+    Ok(
         s.f / (s.a * roots::root(s.a)) * series_d((a0 - x) * s.f / s.a, (a0 - y) * s.f / s.a)
             + 3.0 * s.sum,
     )

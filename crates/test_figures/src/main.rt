@@ -2,21 +2,18 @@
 // holds.
 #![tactic(auto)]
 
-use newtonian::{Field, Newtonian, Vector};
+use newtonian::{Newtonian, Vector};
 use std::io;
 use std::io::Write;
 
 // The gravitational constant, in SI units (CODATA 2018).
 const G: f64 = 6.6743e-11;
 
-fn vector(x: f64, y: f64, z: f64) -> Vector {
-    Vector { x, y, z }
-}
-
 fn within(x: f64, y: f64, tolerance: f64) -> bool {
     doubles::abs(x - y) < tolerance
 }
 
+// A line if the figure holds, which the caller has compared.
 fn say(output: &mut impl Write, holds: bool, what: &str) -> io::Result<()> {
     if holds {
         writeln!(output, "{what}")?;
@@ -48,19 +45,19 @@ fn trace(f: Newtonian) -> f64 {
 fn main(rt: HostRuntime) -> io::Result<()> {
     let mut output = io::writer(&rt);
     let layer = prism::prism(
-        vector(0.0, 0.0, 0.0),
-        vector(-2e6, -2e6, -1.0),
-        vector(2e6, 2e6, 0.0),
+        Vector::from([0.0, 0.0, 0.0]),
+        Vector::from([-2e6, -2e6, -1.0]),
+        Vector::from([2e6, 2e6, 0.0]),
     );
-    if let Field::At(f) = layer {
+    if let Ok(f) = layer {
         bouguer(&mut output, f)?;
     }
     let inside = prism::prism(
-        vector(0.3, 0.2, 0.6),
-        vector(0.0, 0.0, 0.0),
-        vector(1.0, 2.0, 3.0),
+        Vector::from([0.3, 0.2, 0.6]),
+        Vector::from([0.0, 0.0, 0.0]),
+        Vector::from([1.0, 2.0, 3.0]),
     );
-    if let Field::At(f) = inside {
+    if let Ok(f) = inside {
         say(
             &mut output,
             within(trace(f), -4.0 * doubles::PI, 1e-13),
@@ -68,11 +65,11 @@ fn main(rt: HostRuntime) -> io::Result<()> {
         )?;
     }
     let outside = prism::prism(
-        vector(0.3, 0.2, 3.6),
-        vector(0.0, 0.0, 0.0),
-        vector(1.0, 2.0, 3.0),
+        Vector::from([0.3, 0.2, 3.6]),
+        Vector::from([0.0, 0.0, 0.0]),
+        Vector::from([1.0, 2.0, 3.0]),
     );
-    if let Field::At(f) = outside {
+    if let Ok(f) = outside {
         say(
             &mut output,
             within(trace(f), 0.0, 1e-13),

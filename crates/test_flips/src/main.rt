@@ -7,17 +7,11 @@
 
 ghost use Rattle.std.specs.Prelude.{◌<◌, ◌≤◌, length};
 
-use sheet::{TRAILER_LENGTH, Verdict};
+use sheet::{CORNERS_LENGTH, FACE_LENGTH, STATION_LENGTH, TRAILER_LENGTH, VERTEX_LENGTH};
+use sheet_readers::TrailerFields;
 use std::io;
 use std::io::{Read, Write};
 use test_replay::lines;
-
-fn is_accepted(sheet: &[u8]) -> bool {
-    match checker::check_sheet(sheet) {
-        Verdict::Accepted(_, _) => true,
-        Verdict::Refused(_) => false,
-    }
-}
 
 // Whether byte i of a sheet was given, as are vertices and faces, stations, and the trailer's first 64 bytes.
 fn was_given(sheet: &[u8], i: usize) -> bool
@@ -27,12 +21,13 @@ fn was_given(sheet: &[u8], i: usize) -> bool
     if at <= i {
         return i < at + 64;
     }
-    let v = sheet_readers::vertices(sheet) as usize;
-    let f = sheet_readers::faces(sheet) as usize;
-    let s = sheet_readers::stations(sheet) as usize;
-    let rest = 24 * v + 12 * f;
-    let stations = rest + 24 * f;
-    i < rest || (stations <= i && i < stations + 24 * s)
+    let t = TrailerFields::read(sheet);
+    let v = t.vertices as usize;
+    let f = t.faces as usize;
+    let s = t.stations as usize;
+    let orders = VERTEX_LENGTH * v + CORNERS_LENGTH * f;
+    let stations = VERTEX_LENGTH * v + FACE_LENGTH * f;
+    i < orders || (stations <= i && i < stations + STATION_LENGTH * s)
 }
 
 // Of the sheets with a bit flipped in one part: how many are accepted, and how many of these the writer writes anew.
@@ -46,7 +41,7 @@ impl Part {
     fn count(&mut self, sheet: &[u8])
         requires { length sheet.now ≤ 16384 }
     {
-        if is_accepted(sheet) {
+        if checker::check_sheet(sheet).is_ok() {
             self.accepted = self.accepted.wrapping_add(1);
             if test_rewrite::is_rewritten(sheet) {
                 self.anew = self.anew.wrapping_add(1);
@@ -85,7 +80,7 @@ impl Flips {
         sheet[i] ^= 1u8 << k;
     }
 
-    // All sheets with one bit flipped.
+    // All sheets with one bit flipped, by the bit's number: over the sheet's bytes a loop could not change and check the whole sheet.
     fn of(sheet: &mut [u8]) -> Flips
         requires { (80 ≤ length sheet.old) × (length sheet.old ≤ 16384) }
     {
@@ -101,7 +96,7 @@ fn report(output: &mut impl Write, sheet: &mut [u8]) -> io::Result<()>
     requires { (80 ≤ length sheet.old) × (length sheet.old ≤ 16384) }
 {
     let length = sheet.len();
-    let verdict = if is_accepted(sheet) {
+    let verdict = if checker::check_sheet(sheet).is_ok() {
         "accepted"
     } else {
         "refused"
@@ -130,6 +125,7 @@ fn next_sheet(input: &mut impl Read, output: &mut impl Write, length: u32) -> io
 fn main(rt: HostRuntime) -> io::Result<()> {
     let mut input = rt.reader();
     let mut output = io::writer(&rt);
+    // A proved loop has to end: the sheets are counted up to a number that no list reaches.
     for _ in 0..1000usize {
         let Some(head) = lines::read(&mut input) else {
             break;

@@ -4,7 +4,7 @@
 
 ghost use Rattle.std.specs.Prelude.{◌≤◌, length};
 
-use refusals::Cause;
+use refusals::Refusal;
 use test_replay::{double_at, runs, word_at};
 
 // A profile in a list: the line of its body, with the two lists, the order list and a table of stations, each with its thirteen numbers, and the line of
@@ -96,12 +96,12 @@ impl Profile<'_> {
         same_work && same_fields
     }
 
-    pub fn same_cause(&self, cause: Cause) -> bool {
+    pub fn same_cause(&self, cause: Result<(), Refusal>) -> bool {
         let numbers = match cause {
-            Cause::None => [0, 0, 0],
-            Cause::Refused(r) => {
+            Ok(()) => [0, 0, 0],
+            Err(r) => {
                 let [first, second] = runs::values(r);
-                [u64::from(refusals::number(r)), first, second]
+                [u64::from(r.number()), first, second]
             }
         };
         runs::same_words(self.line, 3, &numbers)

@@ -42,5 +42,5 @@ pub fn vector_at(s: &[u8], k: usize) -> Option<Vector>
 
 // How a list writes a refusal: 0x7ff0000000000000 + its number, a NaN's bits that no answer has.
 pub fn refused(r: Refusal) -> u64 {
-    0x7ff0_0000_0000_0000 + refusals::number(r) as u64
+    0x7ff0_0000_0000_0000 + u64::from(r.number())
 }

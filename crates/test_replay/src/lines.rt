@@ -1,6 +1,7 @@
 // Goes through a list, line by line, and counts how many lines of each call were compared, and how many differ.
 ghost use Rattle.std.specs.Prelude.{◌≤◌};
 
+use crate::runs::Lengths;
 use std::io;
 use std::io::{Read, Write};
 
@@ -12,7 +13,7 @@ struct Count {
 }
 
 impl Count {
-    // One line more, which agrees or differs.
+    // One line more. The bool is what is counted, the line's outcome.
     fn add(&mut self, agrees: bool) {
         self.compared = self.compared.wrapping_add(1);
         if !agrees {
@@ -73,12 +74,30 @@ pub fn replay<R: Read, F: FnMut(&mut R, &mut Tally) -> Option<()>>(
     requires { F.IsAlwaysCallable next }
 {
     let mut tally = Tally::default();
+    // A proved loop has to end: the turns are counted up to a number that no list reaches.
     for _ in 0..u64::MAX {
         if next(input, &mut tally).is_none() {
             break;
         }
     }
     tally
+}
+
+// Reads the rest of a line, which has lists of these lengths and `more` numbers besides, and answers whether it agrees. None where it is not there.
+pub fn next_agrees<F: Fn(&[u8], Lengths) -> Option<bool>>(
+    input: &mut impl Read,
+    lengths: Lengths,
+    more: usize,
+    agrees: F,
+) -> Option<bool>
+    requires few { more ≤ 16 }
+    requires callable { F.IsAlwaysCallable agrees }
+{
+    let numbers = lengths.vertices + lengths.faces + lengths.work + more;
+    let mut bytes = [0; 65536];
+    let line = &mut bytes[..17 * numbers];
+    input.read_exact(line).ok()?;
+    agrees(line, lengths)
 }
 
 // A length that a list gives, if it is within 16,384, else 0.

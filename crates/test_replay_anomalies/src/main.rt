@@ -6,14 +6,11 @@
 
 ghost use Rattle.std.specs.Prelude.{◌≤◌};
 
-use anomaly::{NumberAnswer, VectorAnswer};
-use newtonian::Hessian;
+use newtonian::{Hessian, Vector};
 use refusals::Refusal;
 use std::io;
+use test_replay::runs::{Numbers, refused};
 use test_replay::{double_at, lines, runs, vector_at, word_at};
-
-// The three numbers of an answer.
-type Numbers = [u64; 3];
 
 // Nine numbers from place k on, row by row.
 fn matrix_at(line: &[u8], k: usize) -> Option<Hessian>
@@ -26,33 +23,23 @@ fn matrix_at(line: &[u8], k: usize) -> Option<Hessian>
     })
 }
 
-fn refused(r: Refusal) -> Numbers {
-    [test_replay::refused(r), 0, 0]
+fn of_vector(answer: Result<Vector, Refusal>) -> Numbers {
+    answer.map_or_else(refused, |v| <[f64; 3]>::from(v).map(doubles::to_bits))
 }
 
-fn of_vector(a: VectorAnswer) -> Numbers {
-    match a {
-        VectorAnswer::Value(v) => [v.x, v.y, v.z].map(doubles::to_bits),
-        VectorAnswer::Refused(r) => refused(r),
-    }
+fn of_number(answer: Result<f64, Refusal>) -> Numbers {
+    answer.map_or_else(refused, |x| [doubles::to_bits(x), 0, 0])
 }
 
-fn of_number(a: NumberAnswer) -> Numbers {
-    match a {
-        NumberAnswer::Value(x) => [doubles::to_bits(x), 0, 0],
-        NumberAnswer::Refused(r) => refused(r),
-    }
-}
-
-fn body(line: &[u8]) -> Option<VectorAnswer> {
+fn body(line: &[u8]) -> Option<Result<Vector, Refusal>> {
     Some(anomaly::body(matrix_at(line, 1)?, vector_at(line, 10)?))
 }
 
-fn total_field(line: &[u8]) -> Option<NumberAnswer> {
+fn total_field(line: &[u8]) -> Option<Result<f64, Refusal>> {
     Some(anomaly::total_field(vector_at(line, 1)?, vector_at(line, 4)?))
 }
 
-fn sphere(line: &[u8]) -> Option<VectorAnswer> {
+fn sphere(line: &[u8]) -> Option<Result<Vector, Refusal>> {
     Some(anomaly_sphere::sphere(
         vector_at(line, 1)?,
         vector_at(line, 4)?,
@@ -61,7 +48,7 @@ fn sphere(line: &[u8]) -> Option<VectorAnswer> {
     ))
 }
 
-fn cylinder(line: &[u8]) -> Option<VectorAnswer> {
+fn cylinder(line: &[u8]) -> Option<Result<Vector, Refusal>> {
     Some(anomaly_cylinder::cylinder(
         vector_at(line, 1)?,
         vector_at(line, 4)?,
@@ -71,7 +58,7 @@ fn cylinder(line: &[u8]) -> Option<VectorAnswer> {
     ))
 }
 
-fn ellipsoid_factors(line: &[u8]) -> Option<VectorAnswer> {
+fn ellipsoid_factors(line: &[u8]) -> Option<Result<Vector, Refusal>> {
     Some(demagnetisation::ellipsoid_factors(
         double_at(line, 1)?,
         double_at(line, 2)?,
@@ -79,7 +66,7 @@ fn ellipsoid_factors(line: &[u8]) -> Option<VectorAnswer> {
     ))
 }
 
-fn magnetisation(line: &[u8]) -> Option<VectorAnswer> {
+fn magnetisation(line: &[u8]) -> Option<Result<Vector, Refusal>> {
     Some(demagnetisation::magnetisation(
         double_at(line, 1)?,
         vector_at(line, 2)?,
@@ -88,7 +75,7 @@ fn magnetisation(line: &[u8]) -> Option<VectorAnswer> {
     ))
 }
 
-fn koenigsberger(line: &[u8]) -> Option<NumberAnswer> {
+fn koenigsberger(line: &[u8]) -> Option<Result<f64, Refusal>> {
     Some(demagnetisation::koenigsberger(
         vector_at(line, 1)?,
         double_at(line, 4)?,
@@ -110,15 +97,13 @@ fn answer(line: &[u8]) -> Option<Numbers> {
     }
 }
 
-// Whether the line's answer is the call's answer to its arguments.
-fn agrees(line: &[u8]) -> Option<bool> {
-    Some(runs::same_words(line, 17, &answer(line)?))
-}
-
 fn main(rt: HostRuntime) -> io::Result<()> {
     let tally = lines::replay(&mut rt.reader(), |input, tally| {
         let line: [u8; 340] = lines::read(input)?;
-        tally.count(word_at(&line, 0), agrees(&line));
+        tally.count(
+            word_at(&line, 0),
+            runs::same_answer(&line, 17, answer(&line)),
+        );
         Some(())
     });
     tally.report(

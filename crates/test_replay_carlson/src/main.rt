@@ -3,15 +3,11 @@
 // lines were compared and how many differ.
 #![tactic(auto)]
 
-use carlson::Integral;
 use std::io;
 use test_replay::{double_at, lines, word_at};
 
 fn rc(x: f64, y: f64) -> u64 {
-    match carlson::carlson_rc(x, y) {
-        Integral::Value(v) => doubles::to_bits(v),
-        Integral::Refused(r) => test_replay::refused(r),
-    }
+    carlson::carlson_rc(x, y).map_or_else(test_replay::refused, doubles::to_bits)
 }
 
 // The answer of the call to the line's arguments. A number of the list is met here alone: an enum of the calls would be matched twice.

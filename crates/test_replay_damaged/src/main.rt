@@ -5,17 +5,15 @@
 
 ghost use Rattle.std.specs.Prelude.{◌≤◌};
 
-use sheet::{TRAILER_LENGTH, Verdict};
+use sheet::{TRAILER_LENGTH, VERTEX_LENGTH};
 use std::io;
 use std::io::{Read, Write};
 use test_replay::lines;
 
 // The number and the place of the sheet's refusal, if it is refused.
 fn refusal(sheet: &[u8]) -> Option<(u32, u32)> {
-    match checker::check_sheet(sheet) {
-        Verdict::Accepted(_, _) => None,
-        Verdict::Refused(r) => Some((refusals::number(r), refusals::place(r))),
-    }
+    let r = checker::check_sheet(sheet).err()?;
+    Some((r.number(), r.place()))
 }
 
 // A sheet of one vertex more than the limit allows, and nothing else, has so many bytes.
@@ -26,7 +24,7 @@ fn zeros(v: u32) -> Option<(u32, u32)>
     requires { v ≤ 20001 }
 {
     let mut sheet = [0; ROOM];
-    let at = 24 * v as usize;
+    let at = VERTEX_LENGTH * v as usize;
     sheet_layout::put_u32(&mut sheet, at, 1);
     sheet_layout::put_u32(&mut sheet, at + 4, v);
     sheet_layout::put_u64(&mut sheet, at + 72, at as u64);

@@ -6,26 +6,31 @@
 
 ghost use Rattle.std.specs.Prelude.{◌≤◌};
 
-use mesh::Solid;
+use refusals::Refusal;
 use std::io;
-use std::io::{Read, Write};
+use std::io::Write;
+use test_replay::runs::Lengths;
 use test_replay::{lines, runs};
 
 // How a list writes an answer.
-fn numbers(m: Solid) -> [u64; 3] {
-    match m {
-        Solid::Volume(v) => [0, doubles::to_bits(v), 0],
-        Solid::Refused(r) => {
+fn numbers(answer: Result<f64, Refusal>) -> [u64; 3] {
+    match answer {
+        Ok(v) => [0, doubles::to_bits(v), 0],
+        Err(r) => {
             let [a, b] = runs::values(r);
-            [u64::from(refusals::number(r)), a, b]
+            [u64::from(r.number()), a, b]
         }
     }
 }
 
-// Whether the answer and work are right. `line` is the rest of a line whose lengths are v, f and n.
-fn agrees(line: &[u8], v: usize, f: usize, n: usize) -> Option<bool>
-    requires { (v ≤ 1000) × (f ≤ 1000) × (n ≤ 1000) }
-{
+// Whether the answer and work are right. `line` is the rest of a line of those lengths.
+fn agrees(line: &[u8], lengths: Lengths) -> Option<bool> {
+    let Lengths {
+        vertices: v,
+        faces: f,
+        work: n,
+        ..
+    } = lengths;
     let mut verts = [0.0; 1000];
     let mut faces = [0; 1000];
     let mut work = [0; 1000];
@@ -38,17 +43,6 @@ fn agrees(line: &[u8], v: usize, f: usize, n: usize) -> Option<bool>
     let answer = numbers(mesh_check::check_mesh(verts, faces, work));
     let at = v + f;
     Some(runs::same_words(line, at, &answer) && runs::same_work(line, at + 3, work))
-}
-
-// The same of the next line, whose lengths these are.
-fn next_agrees(input: &mut impl Read, lengths: &[u8]) -> Option<bool> {
-    let v = runs::length_at(lengths, 0);
-    let f = runs::length_at(lengths, 1);
-    let n = runs::length_at(lengths, 2);
-    let mut bytes = [0; 65536];
-    let line = &mut bytes[..17 * (v + f + n + 3)];
-    input.read_exact(line).ok()?;
-    agrees(line, v, f, n)
 }
 
 // The answer to v zeros as vertices and f zeros as faces.
@@ -72,8 +66,9 @@ fn limits() -> bool {
 fn main(rt: HostRuntime) -> io::Result<()> {
     let mut output = io::writer(&rt);
     let tally = lines::replay(&mut rt.reader(), |input, tally| {
-        let lengths: [u8; 51] = lines::read(input)?;
-        tally.count(Some(0), next_agrees(input, &lengths));
+        let head: [u8; 51] = lines::read(input)?;
+        let agrees = lines::next_agrees(input, Lengths::of(&head), 3, agrees);
+        tally.count(Some(0), agrees);
         Some(())
     });
     tally.report(&mut output, 0, &["check_mesh"])?;

@@ -6,27 +6,33 @@
 
 ghost use Rattle.std.specs.Prelude.{◌≤◌};
 
-use newtonian::{Field, Vector};
+use newtonian::{Newtonian, Vector};
+use refusals::Refusal;
 use std::io;
-use std::io::{Read, Write};
+use std::io::Write;
+use test_replay::runs::Lengths;
 use test_replay::{lines, runs, vector_at};
 
-fn same_answer(line: &[u8], at: usize, a: Field) -> bool
+fn same_answer(line: &[u8], at: usize, answer: Result<Newtonian, Refusal>) -> bool
     requires { at ≤ 4000 }
 {
-    match a {
-        Field::At(f) => runs::same_field(line, at, f),
-        Field::Refused(r) => {
+    match answer {
+        Ok(f) => runs::same_field(line, at, f),
+        Err(r) => {
             let [first, second] = runs::values(r);
             runs::same_words(line, at, &[test_replay::refused(r), first, second])
         }
     }
 }
 
-// Whether the answer and work are right. `line` is the rest of a line whose lengths are v, f and n.
-fn agrees(line: &[u8], v: usize, f: usize, n: usize) -> Option<bool>
-    requires { (v ≤ 1000) × (f ≤ 1000) × (n ≤ 1000) }
-{
+// Whether the answer and work are right. `line` is the rest of a line of those lengths.
+fn agrees(line: &[u8], lengths: Lengths) -> Option<bool> {
+    let Lengths {
+        vertices: v,
+        faces: f,
+        work: n,
+        ..
+    } = lengths;
     let mut verts = [0.0; 1000];
     let mut faces = [0; 1000];
     let mut work = [0; 1000];
@@ -41,17 +47,6 @@ fn agrees(line: &[u8], v: usize, f: usize, n: usize) -> Option<bool>
     Some(same_answer(line, at, answer) && runs::same_work(line, at + 13, work))
 }
 
-// The same of the next line, whose lengths these are.
-fn next_agrees(input: &mut impl Read, lengths: &[u8]) -> Option<bool> {
-    let v = runs::length_at(lengths, 0);
-    let f = runs::length_at(lengths, 1);
-    let n = runs::length_at(lengths, 2);
-    let mut bytes = [0; 65536];
-    let line = &mut bytes[..17 * (v + f + n + 16)];
-    input.read_exact(line).ok()?;
-    agrees(line, v, f, n)
-}
-
 // The number of the refusal of v zeros as vertices and f zeros as faces, if there is one.
 fn zeros(v: usize, f: usize) -> Option<u32>
     requires { (v ≤ 60003) × (f ≤ 98307) }
@@ -59,15 +54,9 @@ fn zeros(v: usize, f: usize) -> Option<u32>
     let verts = [0.0; runs::VERTEX_ROOM];
     let faces = [0; runs::FACE_ROOM];
     let mut work = [0; runs::FACE_ROOM];
-    let origin = Vector {
-        x: 0.0,
-        y: 0.0,
-        z: 0.0,
-    };
-    match polyhedron::polyhedron(origin, &verts[..v], &faces[..f], &mut work) {
-        Field::At(_) => None,
-        Field::Refused(r) => Some(refusals::number(r)),
-    }
+    let origin = Vector::from([0.0; 3]);
+    let answer = polyhedron::polyhedron(origin, &verts[..v], &faces[..f], &mut work);
+    answer.err().map(Refusal::number)
 }
 
 // V = 20,000 and F = 32,768 are within the limits: no faces is 8, and zeros as faces are flipped, 5. One more of either is 2.
@@ -81,8 +70,9 @@ fn limits() -> bool {
 fn main(rt: HostRuntime) -> io::Result<()> {
     let mut output = io::writer(&rt);
     let tally = lines::replay(&mut rt.reader(), |input, tally| {
-        let lengths: [u8; 51] = lines::read(input)?;
-        tally.count(Some(0), next_agrees(input, &lengths));
+        let head: [u8; 51] = lines::read(input)?;
+        let agrees = lines::next_agrees(input, Lengths::of(&head), 16, agrees);
+        tally.count(Some(0), agrees);
         Some(())
     });
     tally.report(&mut output, 0, &["polyhedron"])?;

@@ -3,7 +3,6 @@
 // zeros. Prints how many lines were compared and how many differ.
 #![tactic(auto)]
 
-use newtonian::Field;
 use std::io;
 use test_replay::{lines, runs, vector_at};
 
@@ -15,8 +14,8 @@ fn agrees(line: &[u8]) -> Option<bool> {
         vector_at(line, 6)?,
     );
     match answer {
-        Field::At(f) => Some(runs::same_field(line, 9, f)),
-        Field::Refused(r) => Some(runs::same_words(line, 9, &[test_replay::refused(r)])),
+        Ok(f) => Some(runs::same_field(line, 9, f)),
+        Err(r) => Some(runs::same_words(line, 9, &[test_replay::refused(r)])),
     }
 }
 

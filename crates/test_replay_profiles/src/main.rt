@@ -7,7 +7,7 @@
 
 ghost use Rattle.std.specs.Prelude.{◌≤◌};
 
-use refusals::Cause;
+use refusals::Refusal;
 use std::io;
 use std::io::{Read, Write};
 use test_records::Profile;
@@ -58,7 +58,7 @@ fn body_length(head: &[u8]) -> usize
     word_at(head, 2).map_or(3800, |w| w.min(3800) as usize)
 }
 
-// The body that a first line begins, and its profiles, as many as that line says. A body that is not there differs.
+// The body that a first line begins, and its profiles, as many as that line says, which the loop counts. A body that is not there differs.
 fn replay_body(input: &mut impl Read, tally: &mut Tally, head: &[u8]) {
     let mut bytes = [0; 65536];
     let body = &mut bytes[..17 * body_length(head)];
@@ -85,16 +85,14 @@ fn zeros(v: usize, f: usize, s: usize) -> Option<u32>
     let stations = [0.0; STATION_ROOM];
     let mut work = [0; runs::FACE_ROOM];
     let mut fields = [0.0; 12];
-    match profile::profile(
+    let cause = profile::profile(
         &stations[..s],
         &verts[..v],
         &faces[..f],
         &mut work,
         &mut fields,
-    ) {
-        Cause::None => None,
-        Cause::Refused(r) => Some(refusals::number(r)),
-    }
+    );
+    cause.err().map(Refusal::number)
 }
 
 // V = 20,000, F = 32,768 and S = 65,536 are within the limits: no faces is 8, zeros as faces are flipped, 5, and for a station there is no room, 12.

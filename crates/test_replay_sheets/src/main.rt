@@ -6,7 +6,8 @@
 
 ghost use Rattle.std.specs.Prelude.{◌≤◌, length};
 
-use sheet::{TRAILER_LENGTH, Verdict};
+use sheet::{Accepted, TRAILER_LENGTH};
+use sheet_readers::TrailerFields;
 use std::io;
 use std::io::Read;
 use test_replay::lines;
@@ -15,12 +16,12 @@ use test_replay::lines;
 fn is_accepted(sheet: &[u8]) -> bool
     requires { 80 ≤ length sheet.now }
 {
-    match checker::check_sheet(sheet) {
-        Verdict::Accepted(kind, s) => {
-            kind == sheet_readers::kind(sheet) && s == sheet_readers::stations(sheet)
-        }
-        Verdict::Refused(_) => false,
-    }
+    let t = TrailerFields::read(sheet);
+    checker::check_sheet(sheet)
+        == Ok(Accepted {
+            kind: t.kind,
+            stations: t.stations,
+        })
 }
 
 // Whether the next sheet, of that length, is accepted and written anew.

@@ -4,38 +4,25 @@
 // differ.
 #![tactic(auto)]
 
-use carlson::Integral;
 use refusals::Refusal;
-use rings::{CompleteIntegrals, RingAnswer};
+use rings::{Complete, RingAverage};
 use std::io;
+use test_replay::runs::{Numbers, refused};
 use test_replay::{double_at, lines, runs, word_at};
 
-// The three numbers of an answer.
-type Numbers = [u64; 3];
-
-fn refused(r: Refusal) -> Numbers {
-    [test_replay::refused(r), 0, 0]
+fn integral(answer: Result<f64, Refusal>) -> Numbers {
+    answer.map_or_else(refused, |v| [doubles::to_bits(v), 0, 0])
 }
 
-fn integral(i: Integral) -> Numbers {
-    match i {
-        Integral::Value(v) => [doubles::to_bits(v), 0, 0],
-        Integral::Refused(r) => refused(r),
-    }
+fn complete(answer: Result<Complete, Refusal>) -> Numbers {
+    answer.map_or_else(
+        refused,
+        |c| [doubles::to_bits(c.k), doubles::to_bits(c.e), 0],
+    )
 }
 
-fn complete(c: CompleteIntegrals) -> Numbers {
-    match c {
-        CompleteIntegrals::Values(v) => [doubles::to_bits(v.k), doubles::to_bits(v.e), 0],
-        CompleteIntegrals::Refused(r) => refused(r),
-    }
-}
-
-fn average(a: RingAnswer) -> Numbers {
-    match a {
-        RingAnswer::Value(v) => [v.v, v.drho, v.dz].map(doubles::to_bits),
-        RingAnswer::Refused(r) => refused(r),
-    }
+fn average(answer: Result<RingAverage, Refusal>) -> Numbers {
+    answer.map_or_else(refused, |a| [a.v, a.drho, a.dz].map(doubles::to_bits))
 }
 
 // The answer of the call to the line's arguments. A number of the list is met here alone: an enum of the calls would be matched twice.
@@ -55,15 +42,13 @@ fn answer(line: &[u8]) -> Option<Numbers> {
     }
 }
 
-// Whether the line's answer is the call's answer to its arguments.
-fn agrees(line: &[u8]) -> Option<bool> {
-    Some(runs::same_words(line, 5, &answer(line)?))
-}
-
 fn main(rt: HostRuntime) -> io::Result<()> {
     let tally = lines::replay(&mut rt.reader(), |input, tally| {
         let line: [u8; 136] = lines::read(input)?;
-        tally.count(word_at(&line, 0), agrees(&line));
+        tally.count(
+            word_at(&line, 0),
+            runs::same_answer(&line, 5, answer(&line)),
+        );
         Some(())
     });
     tally.report(

@@ -4,8 +4,8 @@
 
 ghost use Rattle.std.specs.Prelude.{◌≤◌, length};
 
-use sheet::TRAILER_LENGTH;
-use writer::Written;
+use sheet::{FACE_LENGTH, STATION_LENGTH, TRAILER_LENGTH, VERTEX_LENGTH};
+use sheet_readers::TrailerFields;
 
 // What stands past the sheet.
 const MARK: u8 = 0xa5;
@@ -18,12 +18,13 @@ pub fn is_rewritten(sheet: &[u8]) -> bool
     if n < TRAILER_LENGTH {
         return false;
     }
-    let at = n - TRAILER_LENGTH;
-    let kind = sheet_readers::kind(sheet);
-    let v = sheet_readers::vertices(sheet) as usize;
-    let f = sheet_readers::faces(sheet) as usize;
-    let s = sheet_readers::stations(sheet) as usize;
-    if at != 24 * v + 36 * f + (24 + sheet_rows::kinds::row_length(kind)) * s {
+    let t = TrailerFields::read(sheet);
+    let v = t.vertices as usize;
+    let f = t.faces as usize;
+    let s = t.stations as usize;
+    let stations_start = VERTEX_LENGTH * v + FACE_LENGTH * f;
+    let row_length = sheet_rows::kinds::row_length(t.kind);
+    if n != stations_start + (STATION_LENGTH + row_length) * s + TRAILER_LENGTH {
         return false;
     }
     let mut verts = [0.0; 2048];
@@ -37,14 +38,9 @@ pub fn is_rewritten(sheet: &[u8]) -> bool
     let work = &mut work[..3 * f];
     let out = &mut out[..n + 8];
     sheet_layout::read_f64s(sheet, 0, verts);
-    sheet_layout::read_u32s(sheet, 24 * v, faces);
-    sheet_layout::read_f64s(sheet, 24 * v + 36 * f, stations);
-    let m = sheet_readers::vector_at(sheet, at + 16);
-    let b = sheet_readers::vector_at(sheet, at + 40);
-    match writer::write_sheet(kind, verts, faces, m, b, stations, work, out) {
-        Written::Bytes(k) => {
-            k == n && out.starts_with(sheet) && out[n..].iter().all(|x| *x == MARK)
-        }
-        Written::Refused(_) => false,
-    }
+    sheet_layout::read_u32s(sheet, VERTEX_LENGTH * v, faces);
+    sheet_layout::read_f64s(sheet, stations_start, stations);
+    let (m, b) = (t.magnetisation, t.ambient);
+    let written = writer::write_sheet(t.kind, verts, faces, m, b, stations, work, out);
+    written == Ok(n) && out.starts_with(sheet) && out[n..].iter().all(|x| *x == MARK)
 }

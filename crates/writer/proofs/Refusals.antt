@@ -8,12 +8,12 @@ use Prim.Native.Nat.{ℕ, zero, suc, ◌/◌}
 use lib.ListN.{length}
 use lib.Ieee.{Float, lt}
 use Rattle.doubles.specs.Constants.{0·0}
-use Rattle.refusals.specs.Answer.{Answer, value, refused}
+use Rattle.std.specs.Prelude.{Ok, Err}
+use Rattle.refusals.specs.Answer.{Answer}
+use Rattle.refusals.specs.Causes.{Cause}
 use Rattle.refusals.specs.Causes.{or_else, unless, first_of}
 use Rattle.refusals.specs.declared.Refusal.{Refusal}
 use Rattle.refusals.specs.declared.Refusal.TheVariants.{OutOfLimits, NoSuchVertex, Degenerate, Inverted, NotFinite, TooDeep, TooManyEdges}
-use Rattle.refusals.specs.declared.Cause.{Cause}
-use Rattle.refusals.specs.declared.Cause.TheVariants.{None, Refused}
 use Rattle.mesh.specs.Surface.{face_count, volume}
 use Rattle.mesh.specs.Check.{in_limits, out_of_limits, names_vertex, no_such_vertex, occurs_once, flipped_at, flipped_edge, reverse_occurs, open_at, open_edge, has_normal, degenerate_face, inverted, faces_cause, order_cause, leaves_work}
 use Rattle.sheet_rows.specs.Row.{is_finite_row, row_cause}
@@ -24,10 +24,10 @@ use Rattle.sheet.specs.Writer.{zeroes_out, station_cause}
 
 -- if c refuses, P holds of the refusal
 abbrev pub Of : (Refusal → Type 0) → Cause → Type 0
-Of P None = Unit {0}
-Of P (Refused r) = P r
+Of P (Ok _) = Unit {0}
+Of P (Err r) = P r
 
-pub of_refused : (P : Refusal → Type 0) (c : Cause) (r : Refusal) → Of P c → c ≡ Refused r → P r
+pub of_refused : (P : Refusal → Type 0) (c : Cause) (r : Refusal) → Of P c → c ≡ Err r → P r
 of_refused P c r h e = subst (Of P) e h
 
 abbrev pub Early : Refusal → Type 0
@@ -41,8 +41,8 @@ Late r = (leaves_work r ≡ false) × (zeroes_out r ≡ true)
 
 module _ (P : Refusal → Type 0) where
   pub of_else : (c d : Cause) → Of P c → Of P d → Of P (or_else c d)
-  of_else None d p q = q
-  of_else (Refused r) d p q = p
+  of_else (Ok _) d p q = q
+  of_else (Err r) d p q = p
 
   pub of_unless : (t : Bool) (r : Refusal) → P r → Of P (unless t r)
   of_unless true r h = tt
@@ -78,10 +78,10 @@ late : (i : ℕ) (r : Refusal) → (r ≡ TooDeep i) ⊎ (r ≡ TooManyEdges i) 
 unfolding leaves_work
 late i r h = ⊎_elim (λ e. rw e (refl, refl)) (λ e. rw e (refl, refl)) h
 
-of_row : (kind i : ℕ) (a : Answer Row) → ((r : Refusal) → a ≡ refused r → Late r) → Of Late (row_cause kind i a)
+of_row : (kind i : ℕ) (a : Answer Row) → ((r : Refusal) → a ≡ Err r → Late r) → Of Late (row_cause kind i a)
 unfolding row_cause leaves_work
-of_row kind i (value row) h = of_unless Late (is_finite_row kind row) (NotFinite i) (refl, refl)
-of_row kind i (refused r) h = h r refl
+of_row kind i (Ok row) h = of_unless Late (is_finite_row kind row) (NotFinite i) (refl, refl)
+of_row kind i (Err r) h = h r refl
 
 of_station : (s : SheetInput) (i : ℕ) → Of Late (station_cause s i)
 unfolding station_cause row_at

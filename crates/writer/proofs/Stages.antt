@@ -9,12 +9,12 @@ use lib.Ieee.{Float}
 use lib.ListN.{length, take, drop, replicate}
 use lib.Seq.{length-take-le, take-append-add, take_at, drop_at, drop-drop}
 use borrow.Rule.Slice.PartMut.{mid_of, post_of, put_mid, same_len_mid, mid_len, put_same, drop_put}
-use Rattle.refusals.specs.Answer.{value, or_answer}
+use Rattle.std.specs.Prelude.{Ok, Err}
+use Rattle.refusals.specs.Answer.{Answer, or_answer}
+use Rattle.refusals.specs.Causes.{Cause}
 use Rattle.refusals.specs.Causes.{or_else, unless, first_of}
 use Rattle.refusals.specs.declared.Refusal.{Refusal}
 use Rattle.refusals.specs.declared.Refusal.TheVariants.{Malformed, TooMany, TooShort, OutOfLimits, TooThin}
-use Rattle.refusals.specs.declared.Cause.{Cause}
-use Rattle.refusals.specs.declared.Cause.TheVariants.{None, Refused}
 use Rattle.refusals.proofs.Causes.{both}
 use Rattle.mesh_orders.specs.Edges.{max_vertices, max_faces, max_stations}
 use Rattle.mesh_orders.specs.Order.{order_list}
@@ -26,7 +26,6 @@ use Rattle.mesh.specs.Check.{order_cause, leaves_work, work_after}
 use Rattle.mesh.specs.Check as mesh
 use Rattle.mesh.specs.Accepted.{Counted}
 use Rattle.mesh_laws.proofs.Laws.{solid-volume, solid-refused}
-use Rattle.mesh.specs.declared.Solid.{Solid}
 use Rattle.mesh_check.specs.CheckedMates.{mates_after}
 use Rattle.sheet_layout.specs.LittleEndian.{pack}
 use Rattle.sheet_layout.proofs.Lists.{pack-length}
@@ -44,10 +43,7 @@ use Rattle.writer_causes.specs.LengthsCause.{well_formed, lengths_cause}
 use Rattle.sheet_body.specs.BodyChecked.{check_body_cause, BodyChecked}
 use Rattle.writer_parts.specs.PartsPut.{MatesStand}
 use Rattle.writer_put_sheet.specs.Put.{sheet_or_zeros, SheetPut, Prepared}
-use Rattle.writer.specs.declared.Written.{Written}
-use Rattle.writer.specs.declared.Written.TheVariants.{Bytes}
-use Rattle.writer.specs.declared.Written as written
-use Rattle.writer.specs.Written.{written_answer, write_sheet, Writes}
+use Rattle.writer.specs.Written.{write_sheet, Writes}
 use Rattle.writer.specs.Steps.{late_cause, Leaves}
 use Rattle.writer.proofs.Refusals.{Of, Early, LeavesOut, Late, of_refused, of_else, of_unless, of_limits, of_vertex, of_order, of_stations}
 
@@ -80,15 +76,15 @@ module _ (s : SheetInput) where
       (of_else Early (unless fields OutOfLimits) (mesh.out_of_limits s.stations) (of_unless Early fields OutOfLimits (refl, refl)) (of_limits s.stations))
 
   -- out is as it was
-  out-left : (r : Refusal) (o : List ℕ) → zeroes_out r ≡ false → out_after s (Refused r) o ≡ o
+  out-left : (r : Refusal) (o : List ℕ) → zeroes_out r ≡ false → out_after s (Err r) o ≡ o
   unfolding out_after
   out-left r o e = ap (λ (b : Bool). cond b (replicate (sheet_size s) 0 ++ drop (sheet_size s) o) o) e
 
   -- both are as they were
-  pub untouched : (c : Cause) (r : Refusal) (w o : List ℕ) → c ≡ Refused r → Early r → Leaves s c w o (written.TheVariants.Refused r) w o
+  pub untouched : (c : Cause) (r : Refusal) (w o : List ℕ) → c ≡ Err r → Early r → Leaves s c w o (Err r) w o
   unfolding work_after
   untouched c r w o e h = record {
-    answer = sym (ap (λ (d : Cause). or_answer d (value (sheet_size s))) e);
+    answer = sym (ap (λ (d : Cause). or_answer d (Ok (sheet_size s))) e);
     work = sym (ap (λ (d : Cause). work_after d s.faces w) e ∙ ap (λ (b : Bool). cond b w (order_list s.faces ++ drop (length s.faces) w)) h.0);
     out = sym (ap (λ (d : Cause). out_after s d o) e ∙ out-left r o h.1);
   }
@@ -96,15 +92,15 @@ module _ (s : SheetInput) where
   -- the sheet or zeros stand in front of out, and work holds the order list
   late_out : (c : Cause) → Of Late c → (o : List ℕ) → sheet_or_zeros s c ++ drop (sheet_size s) o ≡ out_after s c o
   unfolding sheet_or_zeros out_after
-  late_out None h o = refl
-  late_out (Refused r) h o = sym (ap (λ (b : Bool). cond b (replicate (sheet_size s) 0 ++ drop (sheet_size s) o) o) h.1)
+  late_out (Ok _) h o = refl
+  late_out (Err r) h o = sym (ap (λ (b : Bool). cond b (replicate (sheet_size s) 0 ++ drop (sheet_size s) o) o) h.1)
 
-  late_work : (c : Cause) → Of Late c → (w : List ℕ) → work_after None s.faces w ≡ work_after c s.faces w
+  late_work : (c : Cause) → Of Late c → (w : List ℕ) → work_after (Ok tt) s.faces w ≡ work_after c s.faces w
   unfolding work_after
-  late_work None h w = refl
-  late_work (Refused r) h w = sym (ap (λ (b : Bool). cond b w (order_list s.faces ++ drop (length s.faces) w)) h.0)
+  late_work (Ok _) h w = refl
+  late_work (Err r) h w = sym (ap (λ (b : Bool). cond b w (order_list s.faces ++ drop (length s.faces) w)) h.0)
 
-  order-front : (w : List ℕ) → take (length s.faces) (work_after None s.faces w) ≡ order_list s.faces
+  order-front : (w : List ℕ) → take (length s.faces) (work_after (Ok tt) s.faces w) ≡ order_list s.faces
   unfolding work_after
   order-front w = take_at (order_list s.faces) (drop (length s.faces) w) (length s.faces) (order-length s.faces)
 
@@ -137,11 +133,11 @@ put_leaves a e n o y b h g l =
 
 -- ---- a sheet whose counts are within the limits
 
-module _ (s : SheetInput) (w o : List ℕ) (ok : lengths_cause s (length w) (length o) ≡ None) where
-  is_well_formed : malformed s ≡ None
+module _ (s : SheetInput) (w o : List ℕ) (ok : lengths_cause s (length w) (length o) ≡ Ok tt) where
+  is_well_formed : malformed s ≡ Ok tt
   is_well_formed = (both (malformed s) (or_else (too_many s) (too_short s (length w) (length o))) ok).0
 
-  rest : (too_many s ≡ None) × (too_short s (length w) (length o) ≡ None)
+  rest : (too_many s ≡ Ok tt) × (too_short s (length w) (length o) ≡ Ok tt)
   rest = both (too_many s) (too_short s (length w) (length o)) (both (malformed s) (or_else (too_many s) (too_short s (length w) (length o))) ok).1
 
   pub room : (length s.faces ≤ length w) × (sheet_size s ≤ length o)
@@ -184,25 +180,25 @@ module _ (s : SheetInput) (w o : List ℕ) (ok : lengths_cause s (length w) (len
   mates-bytes : length (pack 4 (mates s.faces)) ≡ 4 * length s.faces
   mates-bytes = pack-length 4 (mates s.faces) ∙ ap (λ (n : ℕ). 4 * n) (mates-length s.faces)
 
-  module _ {r : Solid} {p y : List ℕ} (h : BodyChecked s w lent r p y) where
+  module _ {r : Answer Float} {p y : List ℕ} (h : BodyChecked s w lent r p y) where
     -- the body is refused
-    pub body_refused : (q : Refusal) → r ≡ Solid.Refused q → Leaves s (late_cause s) w o (written.TheVariants.Refused q) p (back y)
+    pub body_refused : (q : Refusal) → r ≡ Err q → Leaves s (late_cause s) w o (Err q) p (back y)
     unfolding mates_after
     body_refused q e =
         let f = solid-refused (check_body_cause s) (volume s) q (sym h.answer ∙ e) in
         let g = ap (λ (d : Cause). or_else d (first_of (station_count s) (station_cause s))) f in
         record {
-          answer = sym (ap (λ (d : Cause). or_answer d (value (sheet_size s))) g);
+          answer = sym (ap (λ (d : Cause). or_answer d (Ok (sheet_size s))) g);
           work = h.work ∙ ap (λ (d : Cause). work_after d s.faces w) (f ∙ sym g);
           out = ap back (h.mates ∙ ap (λ (d : Cause). mates_after d s.faces lent) f) ∙ put_same at (end - at) o ∙ sym (ap (λ (d : Cause). out_after s d o) g ∙ out-left s q o (of_refused LeavesOut (check_body_cause s) q (solid-out s) f));
         }
 
     -- it is not
-    module _ (x : Float) (e : r ≡ Solid.Volume x) where
-      solid : (check_body_cause s ≡ None) × (x ≡ volume s)
+    module _ (x : Float) (e : r ≡ Ok x) where
+      solid : (check_body_cause s ≡ Ok tt) × (x ≡ volume s)
       solid = solid-volume (check_body_cause s) (volume s) x (sym h.answer ∙ e)
 
-      held : p ≡ work_after None s.faces w
+      held : p ≡ work_after (Ok tt) s.faces w
       held = h.work ∙ ap (λ (d : Cause). work_after d s.faces w) solid.0
 
       order : take (length s.faces) p ≡ order_list s.faces
@@ -242,25 +238,25 @@ module _ (s : SheetInput) (w o : List ℕ) (ok : lengths_cause s (length w) (len
             room = z;
           }
 
-      pub put : (c : Cause) (n : ℕ) {a : Written} {q : List ℕ} → n ≡ sheet_size s → SheetPut s c q → written_answer a ≡ or_answer c (value n) → Leaves s (late_cause s) w o a p (q ++ drop n (back y))
+      pub put : (c : Cause) (n : ℕ) {a : Answer ℕ} {q : List ℕ} → n ≡ sheet_size s → SheetPut s c q → a ≡ or_answer c (Ok n) → Leaves s (late_cause s) w o a p (q ++ drop n (back y))
       put c n {q = q} z g a =
           let stations = first_of (station_count s) (station_cause s) in
           let f : late_cause s ≡ stations = ap (λ (d : Cause). or_else d stations) solid.0 in
           record {
-            answer = a ∙ ap₂ (λ (d : Cause) (k : ℕ). or_answer d (value k)) (g.cause ∙ sym f) z;
+            answer = a ∙ ap₂ (λ (d : Cause) (k : ℕ). or_answer d (Ok k)) (g.cause ∙ sym f) z;
             work = held ∙ late_work s stations (of_stations s) w ∙ ap (λ (d : Cause). work_after d s.faces w) (sym f);
             out = ap (λ (x : List ℕ). q ++ x) (put_leaves at end n o y (omega arith) (omega (arith, mates-fit)) mates-within (mated-size ∙ omega arith)) ∙ ap₂ (λ (x : List ℕ) (k : ℕ). x ++ drop k o) (g.bytes ∙ ap (sheet_or_zeros s) g.cause) z ∙ late_out s stations (of_stations s) o ∙ ap (λ (d : Cause). out_after s d o) (sym f);
           }
 
 -- a cause is an equal one
-leaves_same : {s : SheetInput} {c d : Cause} {w o p q : List ℕ} {r : Written} → d ≡ c → Leaves s c w o r p q → Leaves s d w o r p q
+leaves_same : {s : SheetInput} {c d : Cause} {w o p q : List ℕ} {r : Answer ℕ} → d ≡ c → Leaves s c w o r p q → Leaves s d w o r p q
 leaves_same {s} {w = w} {o = o} {p = p} {q = q} {r = r} e h = subst (λ (x : Cause). Leaves s x w o r p q) (sym e) h
 
 -- ---- all causes
 
 assoc : (c d e : Cause) → or_else (or_else c d) e ≡ or_else c (or_else d e)
-assoc None d e = refl
-assoc (Refused r) d e = refl
+assoc (Ok _) d e = refl
+assoc (Err r) d e = refl
 
 module _ (s : SheetInput) (w o : ℕ) where
   -- in the steps of the code
@@ -274,19 +270,15 @@ module _ (s : SheetInput) (w o : ℕ) where
 
 -- ---- demand 3
 
-no_refusal : (c : Cause) (m n : ℕ) → or_answer c (value m) ≡ value n → c ≡ None
-no_refusal None m n e = refl
-no_refusal (Refused r) m n e = absurd (let z : ◌≡◌ {A = ℕ} 0 1 = cc in omega arith)
+no_refusal : (c : Cause) (m n : ℕ) → or_answer c (Ok m) ≡ Ok n → c ≡ Ok tt
+no_refusal (Ok _) m n e = refl
+no_refusal (Err r) m n e = absurd (let z : ◌≡◌ {A = ℕ} 0 1 = cc in omega arith)
 
-is-bytes : (r : Written) (n : ℕ) → written_answer r ≡ value n → r ≡ Bytes n
-is-bytes (Bytes m) n e = ap Bytes (cc)
-is-bytes (written.TheVariants.Refused q) n e = absurd (let z : ◌≡◌ {A = ℕ} 0 1 = cc in omega arith)
+module _ (s : SheetInput) (ty : Typed s) (w o : List ℕ) {r : Answer ℕ} {p q : List ℕ} (h : Leaves s (writer_cause s (length w) (length o)) w o r p q) where
+  none : (n : ℕ) → r ≡ Ok n → writer_cause s (length w) (length o) ≡ Ok tt
+  none n e = no_refusal (writer_cause s (length w) (length o)) (sheet_size s) n (sym h.answer ∙ e)
 
-module _ (s : SheetInput) (ty : Typed s) (w o : List ℕ) {r : Written} {p q : List ℕ} (h : Leaves s (writer_cause s (length w) (length o)) w o r p q) where
-  none : (n : ℕ) → r ≡ Bytes n → writer_cause s (length w) (length o) ≡ None
-  none n e = no_refusal (writer_cause s (length w) (length o)) (sheet_size s) n (sym h.answer ∙ ap written_answer e)
-
-  is-kept : (n : ℕ) → r ≡ Bytes n → Kept s (take (sheet_size s) q)
+  is-kept : (n : ℕ) → r ≡ Ok n → Kept s (take (sheet_size s) q)
   unfolding out_after
   is-kept n e =
       let z = none n e in
@@ -303,7 +295,7 @@ module _ (s : SheetInput) (ty : Typed s) (w o : List ℕ) {r : Written} {p q : L
     out = h.out;
     kept = is-kept;
     only = λ n e. no_cause s (length w) (length o) (none n e);
-    always = λ k. is-bytes r (sheet_size s) (h.answer ∙ ap (λ (c : Cause). or_answer c (value (sheet_size s))) (cause-none s (length w) (length o) k));
+    always = λ k. h.answer ∙ ap (λ (c : Cause). or_answer c (Ok (sheet_size s))) (cause-none s (length w) (length o) k);
   }
 
 -- ---- the returns of `write_sheet`
@@ -312,17 +304,17 @@ module _ (s : SheetInput) (ty : Typed s) (w o : List ℕ) where
   counts_first : (c : Cause) → lengths_cause s (length w) (length o) ≡ c → writer_cause s (length w) (length o) ≡ or_else c (or_else (out_of_limits s) (late_cause s))
   counts_first c p = in_steps s (length w) (length o) ∙ ap (λ (d : Cause). or_else d (or_else (out_of_limits s) (late_cause s))) p
 
-  then_limits : (c : Cause) → lengths_cause s (length w) (length o) ≡ None → out_of_limits s ≡ c → writer_cause s (length w) (length o) ≡ or_else c (late_cause s)
-  then_limits c p e = counts_first None p ∙ ap (λ (d : Cause). or_else d (late_cause s)) e
+  then_limits : (c : Cause) → lengths_cause s (length w) (length o) ≡ Ok tt → out_of_limits s ≡ c → writer_cause s (length w) (length o) ≡ or_else c (late_cause s)
+  then_limits c p e = counts_first (Ok tt) p ∙ ap (λ (d : Cause). or_else d (late_cause s)) e
 
-  pub by_counts : (r : Refusal) → lengths_cause s (length w) (length o) ≡ Refused r → Writes s w o (written.TheVariants.Refused r) w o
+  pub by_counts : (r : Refusal) → lengths_cause s (length w) (length o) ≡ Err r → Writes s w o (Err r) w o
   by_counts r e =
       writes s ty w o
-      (untouched s (writer_cause s (length w) (length o)) r w o (counts_first (Refused r) e) (of_refused Early (lengths_cause s (length w) (length o)) r (count_early s (length w) (length o)) e))
+      (untouched s (writer_cause s (length w) (length o)) r w o (counts_first (Err r) e) (of_refused Early (lengths_cause s (length w) (length o)) r (count_early s (length w) (length o)) e))
 
-  pub by_limits : (r : Refusal) → lengths_cause s (length w) (length o) ≡ None → out_of_limits s ≡ Refused r → Writes s w o (written.TheVariants.Refused r) w o
+  pub by_limits : (r : Refusal) → lengths_cause s (length w) (length o) ≡ Ok tt → out_of_limits s ≡ Err r → Writes s w o (Err r) w o
   by_limits r p e =
-      writes s ty w o (untouched s (writer_cause s (length w) (length o)) r w o (then_limits (Refused r) p e) (of_refused Early (out_of_limits s) r (limits_early s) e))
+      writes s ty w o (untouched s (writer_cause s (length w) (length o)) r w o (then_limits (Err r) p e) (of_refused Early (out_of_limits s) r (limits_early s) e))
 
-  pub later : {r : Written} {p q : List ℕ} → lengths_cause s (length w) (length o) ≡ None → out_of_limits s ≡ None → Leaves s (late_cause s) w o r p q → Writes s w o r p q
-  later n e h = writes s ty w o (leaves_same (then_limits None n e) h)
+  pub later : {r : Answer ℕ} {p q : List ℕ} → lengths_cause s (length w) (length o) ≡ Ok tt → out_of_limits s ≡ Ok tt → Leaves s (late_cause s) w o r p q → Writes s w o r p q
+  later n e h = writes s ty w o (leaves_same (then_limits (Ok tt) n e) h)

@@ -1,55 +1,32 @@
-// The sheet writer.
+// The sheet writer. A kind stays its number (sheet_rows/src/kinds.rt).
 #![tactic(auto)]
 
 ghost use Rattle.std.specs.Prelude.{◌≡◌, length};
-ghost use Rattle.refusals.specs.Answer.{value, or_answer};
-ghost use Rattle.refusals.specs.declared.Cause.TheVariants.{None};
 ghost use Rattle.sheet.specs.Input.{input_of, source_input};
 ghost use Rattle.writer_causes.specs.LengthsCause.{lengths_cause};
-ghost use Rattle.writer.specs.Written.{written_answer, Writes};
+ghost use Rattle.writer.specs.Written.{Writes};
 ghost use Rattle.writer.specs.Steps.{LeavesLate};
 
-use mesh::Solid;
 use newtonian::Vector;
-use refusals::{Cause, Refusal};
+use refusals::Refusal;
 use sheet::Source;
 use sheet_body::check_body;
 use writer_causes::{lengths_cause, number_cause, sheet_length};
 use writer_put_sheet::put_sheet;
 
-// What `write_sheet` answers: the sheet's length, or the refusal.
-#[derive(Clone, Copy)]
-pub enum Written {
-    Bytes(usize),
-    Refused(Refusal),
-}
-
-fn answer(cause: Cause, size: usize) -> Written
-    ensures { written_answer result ≡ or_answer cause (value size) }
-{
-    match cause {
-        Cause::None => Written::Bytes(size),
-        Cause::Refused(r) => Written::Refused(r),
-    }
-}
-
 // Writes the sheet of a body whose counts and lengths are within the limits; the numbers are judged by the caller. The check of the body finds the mates, and leaves them in their place.
-fn write_counted(source: &Source, work: &mut [u32], out: &mut [u8]) -> Written
-    requires { lengths_cause (source_input source.now) (length work.old) (length out.old) ≡ None }
+fn write_counted(source: &Source, work: &mut [u32], out: &mut [u8]) -> Result<usize, Refusal>
+    requires { lengths_cause (source_input source.now) (length work.old) (length out.old) ≡ Ok tt }
     ensures { LeavesLate (source_input source.now) work.old out.old result work.new out.new }
 {
     let v = source.verts.len();
     let n = source.faces.len();
     let at = 8 * v + 8 * n;
     let end = at + 4 * n;
-    match check_body(source, work, &mut out[at..end]) {
-        Solid::Refused(r) => Written::Refused(r),
-        Solid::Volume(volume) => {
-            let size = sheet_length(source.kind, v / 3, n / 3, source.stations.len() / 3);
-            let cause = put_sheet(source, volume, &work[..n], &mut out[..size]);
-            answer(cause, size)
-        }
-    }
+    let volume = check_body(source, work, &mut out[at..end])?;
+    let size = sheet_length(source.kind, v / 3, n / 3, source.stations.len() / 3);
+    put_sheet(source, volume, &work[..n], &mut out[..size])?;
+    Ok(size)
 }
 
 // Writes the sheet of a body, a mesh (kind 1) or a prism (kind 2), and of the stations into the front of out, and returns its length. verts has three coordinates to a
@@ -63,7 +40,7 @@ pub fn write_sheet(
     stations: &[f64],
     work: &mut [u32],
     out: &mut [u8],
-) -> Written
+) -> Result<usize, Refusal>
     ensures { Writes (input_of kind verts.now faces.now magnetisation ambient stations.now) work.old out.old result work.new out.new }
 {
     let source = Source {
@@ -74,20 +51,14 @@ pub fn write_sheet(
         ambient,
         stations,
     };
-    let counts = lengths_cause(
+    lengths_cause(
         kind,
         verts.len(),
         faces.len(),
         stations.len(),
         work.len(),
         out.len(),
-    );
-    if let Cause::Refused(r) = counts {
-        return Written::Refused(r);
-    }
-    let numbers = number_cause(&source);
-    if let Cause::Refused(r) = numbers {
-        return Written::Refused(r);
-    }
+    )?;
+    number_cause(&source)?;
     write_counted(&source, work, out)
 }

@@ -1,7 +1,7 @@
 -- The causes that the counts and lengths decide: 1, 2 and 12 of document 01. Definitions only.
 use Rattle.std.specs.Prelude.{◌≡◌, Bool, ◌&&◌, ℕ, ◌/◌, ◌%◌, eqb, length}
 use Rattle.refusals.specs.Causes.{or_else}
-use Rattle.refusals.specs.declared.Cause.{Cause}
+use Rattle.refusals.specs.Causes.{Cause}
 use Rattle.sheet_rows.specs.Kinds.{known_kind}
 use Rattle.sheet.specs.Input.{SheetInput}
 use Rattle.sheet.specs.Writer.{malformed, too_many, too_short}

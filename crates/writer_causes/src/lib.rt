@@ -1,4 +1,5 @@
 // What `write_sheet` asks of its arguments before it touches anything: the causes of refusal 1, 2, 12 and 3.
+// Lengths and counts stay numbers side by side: the causes compare them one with another, and they do not belong together before that. A kind stays its number (sheet_rows/src/kinds.rt).
 #![tactic(auto)]
 
 ghost use Rattle.std.specs.Prelude.{◌≡◌, ◌+◌, ◌≤◌};
@@ -8,7 +9,7 @@ ghost use Rattle.sheet.specs.Writer.{out_of_limits};
 ghost use Rattle.sheet.specs.Input.{SheetInput, source_input};
 ghost use Rattle.writer_causes.specs.LengthsCause.{well_formed, Lengths, lengths_cause};
 
-use refusals::{Cause, Refusal};
+use refusals::Refusal;
 use sheet::{FACE_LENGTH, STATION_LENGTH, Source, TRAILER_LENGTH, VERTEX_LENGTH};
 
 // ---- 1, 2 and 12
@@ -42,39 +43,36 @@ pub fn lengths_cause(
     stations: usize,
     work: usize,
     out: usize,
-) -> Cause
+) -> Result<(), Refusal>
     ensures { (s : SheetInput) → Lengths s kind verts faces stations → result ≡ lengths_cause s work out }
 {
     if !well_formed(kind, verts, faces, stations) {
-        return Cause::Refused(Refusal::Malformed);
+        return Err(Refusal::Malformed);
     }
     let v = verts / 3;
     let f = faces / 3;
     let n = stations / 3;
     if !sheet_rows::kinds::within_counts(v, f, n) {
-        return Cause::Refused(Refusal::TooMany);
+        return Err(Refusal::TooMany);
     }
     if work < faces {
-        return Cause::Refused(Refusal::TooShort);
+        return Err(Refusal::TooShort);
     }
     if out < sheet_length(kind, v, f, n) {
-        return Cause::Refused(Refusal::TooShort);
+        return Err(Refusal::TooShort);
     }
-    Cause::None
+    Ok(())
 }
 
 // ---- 3
 
 // Kind and faces play no part.
-pub fn number_cause(source: &Source) -> Cause
+pub fn number_cause(source: &Source) -> Result<(), Refusal>
     ensures { result ≡ out_of_limits (source_input source.now) }
 {
-    let vertices = mesh::scan::out_of_limits(source.verts);
-    if let Cause::Refused(r) = vertices {
-        return Cause::Refused(r);
-    }
+    mesh::scan::out_of_limits(source.verts)?;
     if !anomaly::both_within_limits(source.magnetisation, source.ambient) {
-        return Cause::Refused(Refusal::OutOfLimits);
+        return Err(Refusal::OutOfLimits);
     }
     mesh::scan::out_of_limits(source.stations)
 }

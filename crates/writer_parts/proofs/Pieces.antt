@@ -7,8 +7,8 @@ use lib.ListN.{length, set, take, drop, replicate, length-map, length-replicate,
 use lib.Seq.{sets, length-sets, sets-eq, drop-set-lt, drop-drop}
 use lib.Ieee.{Float, binary64, to_bits}
 use Rattle.refusals.specs.declared.Refusal.{Refusal}
-use Rattle.refusals.specs.declared.Cause.{Cause}
-use Rattle.refusals.specs.declared.Cause.TheVariants.{None, Refused}
+use Rattle.std.specs.Prelude.{Ok, Err}
+use Rattle.refusals.specs.Causes.{Cause}
 use Rattle.newtonian.specs.Vectors.{vector_numbers}
 use Rattle.newtonian.specs.declared.Vector.{Vector}
 use Rattle.mesh_orders.specs.Order.{order_list}
@@ -96,10 +96,10 @@ module _ (kind v f n : ℕ) (m b : Vector) (x : Float) (at : ℕ) where
 -- ---- after the rows
 
 module _ {cause : Cause} (trailer : List Part) (o : List ℕ) {q : List ℕ} where
-  pub zeroed : {r : Refusal} → cause ≡ Refused r → q ≡ sets o 0 (replicate (length o) 0) → q ≡ finished cause trailer o
+  pub zeroed : {r : Refusal} → cause ≡ Err r → q ≡ sets o 0 (replicate (length o) 0) → q ≡ finished cause trailer o
   unfolding finished
   zeroed e h = h ∙ sets_all o (replicate (length o) 0) (length-replicate {A = ℕ} (length o) 0) ∙ sym (ap (λ (d : Cause). finished d trailer o) e)
 
-  pub ended : cause ≡ None → q ≡ sets o (length o - trailer_length) (joined trailer) → q ≡ finished cause trailer o
+  pub ended : cause ≡ Ok tt → q ≡ sets o (length o - trailer_length) (joined trailer) → q ≡ finished cause trailer o
   unfolding finished
   ended e h = h ∙ sym (ap (λ (d : Cause). finished d trailer o) e)

@@ -1,8 +1,8 @@
 -- The parts of a sheet before its rows and after them, in document 01's order, and what its bytes become once the rows are written or refused. Definitions only.
 use Rattle.std.specs.Prelude.{◌≡◌, List, [], ◌∷◌, ℕ, ◌+◌, ◌*◌, ◌-◌, Float, length, take, drop, replicate}
 use Rattle.std.proofs.lemmas.List.Edits.{sets}
-use Rattle.refusals.specs.declared.Cause.{Cause}
-use Rattle.refusals.specs.declared.Cause.TheVariants.{None, Refused}
+use Rattle.std.specs.Prelude.{Ok, Err}
+use Rattle.refusals.specs.Causes.{Cause}
 use Rattle.newtonian.specs.Vectors.{vector_numbers}
 use Rattle.newtonian.specs.declared.Vector.{Vector}
 use Rattle.mesh_orders.specs.Order.{order_list}
@@ -26,5 +26,5 @@ trailer_parts kind v f n m b x pointer =
 
 -- the sheet's bytes, which were o once the rows were tried: the trailer stands in the last of them, or all are zeros after a refusal
 unfoldable pub finished : Cause → List Part → List ℕ → List ℕ
-finished None trailer o = sets o (length o - trailer_length) (joined trailer)
-finished (Refused r) trailer o = replicate (length o) 0
+finished (Ok _) trailer o = sets o (length o - trailer_length) (joined trailer)
+finished (Err r) trailer o = replicate (length o) 0

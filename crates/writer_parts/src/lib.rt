@@ -9,7 +9,7 @@ ghost use Rattle.sheet.specs.Input.{source_input};
 ghost use Rattle.sheet.specs.Bytes.{trailer_length};
 ghost use Rattle.writer_parts.specs.PartsPut.{front_parts, MatesStand, trailer_parts, finished};
 
-use refusals::Cause;
+use refusals::Refusal;
 use sheet::{Source, TRAILER_LENGTH};
 use sheet_layout::{put_f64s, put_u32s, put_u64, put_zeros};
 
@@ -46,13 +46,21 @@ fn put_trailer(source: &Source, v: u32, f: u32, n: u32, volume: f64, out: &mut [
 }
 
 // Ends the sheet that all of out holds: writes its trailer, or zeros over all of it where a row was refused.
-pub fn put_end(cause: Cause, source: &Source, v: u32, f: u32, n: u32, volume: f64, out: &mut [u8])
+pub fn put_end(
+    cause: Result<(), Refusal>,
+    source: &Source,
+    v: u32,
+    f: u32,
+    n: u32,
+    volume: f64,
+    out: &mut [u8],
+)
     requires { trailer_length ≤ length out.old }
     ensures { let s = source_input source.now in
         out.new ≡ finished cause (trailer_parts s.kind v f n s.magnetisation s.ambient volume (length out.old - trailer_length)) out.old }
 {
     let size = out.len();
-    if let Cause::Refused(r) = cause {
+    if let Err(_) = cause {
         put_zeros(out, size);
         return;
     }

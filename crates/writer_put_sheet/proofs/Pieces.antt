@@ -7,8 +7,8 @@ use lib.ListN.{length, replicate, length-append}
 use lib.Seq.{sets}
 use lib.Ieee.{Float}
 use Rattle.refusals.specs.Causes.{first_of}
-use Rattle.refusals.specs.declared.Cause.{Cause}
-use Rattle.refusals.specs.declared.Cause.TheVariants.{None, Refused}
+use Rattle.std.specs.Prelude.{Ok, Err}
+use Rattle.refusals.specs.Causes.{Cause}
 use Rattle.mesh_orders.specs.OrderLaws.{order-length}
 use Rattle.sheet_layout.specs.LittleEndian.{pack, bits}
 use Rattle.sheet_layout.specs.Parts.{Part, joined}
@@ -39,7 +39,7 @@ module _ (s : SheetInput) (o : List ℕ) (x : Float) (l : List ℕ) (ok : Prepar
   room = omega (arith, ok.room, ok.coordinates, ok.faces.triples, ok.triples)
 
   module _ {o₁ o₂ : List ℕ} (size : length o₂ ≡ length l) (e₁ : o₁ ≡ sets l 0 (joined front)) where
-    module _ (none : first_of (station_count s) (station_cause s) ≡ None) (e₂ : o₂ ≡ sets o₁ start (pack 8 (bits (rows s (station_count s))))) where
+    module _ (none : first_of (station_count s) (station_cause s) ≡ Ok tt) (e₂ : o₂ ≡ sets o₁ start (pack 8 (bits (rows s (station_count s))))) where
       abbrev up_to : List Part
       up_to = front ++ ((8, bits (rows s (station_count s))) ∷ [])
 
@@ -68,8 +68,8 @@ module _ (s : SheetInput) (o : List ℕ) (x : Float) (l : List ℕ) (ok : Prepar
           ap (λ (y : List ℕ). sets y at t) with_rows ∙ sets_then l 0 at (joined up_to) t (omega (arith, up_to-size)) ∙ sets_all l (joined up_to ++ t) all ∙ sym (joined-append up_to (trailer at)) ∙ ap joined all-parts
 
     -- the sheet, or zeros
-    pub put-together : (c : Cause) {q : List ℕ} → c ≡ first_of (station_count s) (station_cause s) → (c ≡ None → o₂ ≡ sets o₁ start (pack 8 (bits (rows s (station_count s)))))
+    pub put-together : (c : Cause) {q : List ℕ} → c ≡ first_of (station_count s) (station_cause s) → (c ≡ Ok tt → o₂ ≡ sets o₁ start (pack 8 (bits (rows s (station_count s)))))
         → q ≡ finished c (trailer (length o₂ - trailer_length)) o₂ → q ≡ sheet_or_zeros s c
     unfolding finished sheet_or_zeros
-    put-together None none e₂ e₃ = e₃ ∙ whole (sym none) (e₂ refl)
-    put-together (Refused r) none e₂ e₃ = e₃ ∙ ap (λ (n : ℕ). replicate n 0) (size ∙ ok.room)
+    put-together (Ok _) none e₂ e₃ = e₃ ∙ whole (sym none) (e₂ refl)
+    put-together (Err r) none e₂ e₃ = e₃ ∙ ap (λ (n : ℕ). replicate n 0) (size ∙ ok.room)

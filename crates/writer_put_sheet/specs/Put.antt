@@ -1,8 +1,8 @@
 -- What `put_sheet` is handed, and what it leaves where the sheet was to be. Definitions only.
 use Rattle.std.specs.Prelude.{◌≡◌, true, false, List, ℕ, ◌%◌, ◌≤◌, Float, length, replicate}
 use Rattle.refusals.specs.Causes.{first_of}
-use Rattle.refusals.specs.declared.Cause.{Cause}
-use Rattle.refusals.specs.declared.Cause.TheVariants.{None, Refused}
+use Rattle.std.specs.Prelude.{Ok, Err}
+use Rattle.refusals.specs.Causes.{Cause}
 use Rattle.mesh_orders.specs.Edges.{max_vertices, max_stations, Faces}
 use Rattle.mesh_orders.specs.Order.{order_list}
 use Rattle.mesh.specs.Surface.{Body}
@@ -26,8 +26,8 @@ pub record Prepared (s : SheetInput) (o : List ℕ) (x : Float) (n : ℕ) : Type
 
 -- the sheet, or zeros after a refusal
 unfoldable pub sheet_or_zeros : SheetInput → Cause → List ℕ
-sheet_or_zeros s None = sheet_bytes s
-sheet_or_zeros s (Refused r) = replicate (sheet_size s) 0
+sheet_or_zeros s (Ok _) = sheet_bytes s
+sheet_or_zeros s (Err r) = replicate (sheet_size s) 0
 
 -- the cause r that it gives, and the bytes, which become p
 pub record SheetPut (s : SheetInput) (r : Cause) (p : List ℕ) : Type 0 where

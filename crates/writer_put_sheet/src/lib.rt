@@ -6,13 +6,13 @@ ghost use Rattle.sheet.specs.Input.{source_input};
 ghost use Rattle.writer_parts.specs.PartsPut.{MatesStand};
 ghost use Rattle.writer_put_sheet.specs.Put.{SheetPut, Prepared};
 
-use refusals::Cause;
+use refusals::Refusal;
 use sheet::Source;
 use writer_parts::{put_end, put_front};
 use writer_rows::put_rows;
 
 // Writes the sheet over all of out, where the mates stand already, or zeros where a row is refused.
-pub fn put_sheet(source: &Source, volume: f64, order: &[u32], out: &mut [u8]) -> Cause
+pub fn put_sheet(source: &Source, volume: f64, order: &[u32], out: &mut [u8]) -> Result<(), Refusal>
     requires { let s = source_input source.now in Prepared s order.now volume (length out.old) × MatesStand (length s.vertices) s.faces out.old }
     ensures { SheetPut (source_input source.now) result out.new }
 {

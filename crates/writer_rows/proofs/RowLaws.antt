@@ -10,12 +10,12 @@ use native.Mathlib.Omega.{arith}
 use lib.ListN.{length, length-map}
 use lib.Seq.{sets}
 use lib.Ieee.{Float, binary64, to_bits}
-use Rattle.refusals.specs.Answer.{Answer, value, refused}
+use Rattle.std.specs.Prelude.{Ok, Err}
+use Rattle.refusals.specs.Answer.{Answer}
+use Rattle.refusals.specs.Causes.{Cause}
 use Rattle.refusals.specs.Causes.{unless, cause_or, first_of}
 use Rattle.refusals.specs.declared.Refusal.{Refusal}
 use Rattle.refusals.specs.declared.Refusal.TheVariants.{NotFinite}
-use Rattle.refusals.specs.declared.Cause.{Cause}
-use Rattle.refusals.specs.declared.Cause.TheVariants.{None, Refused}
 use Rattle.refusals.proofs.Causes.{each, stop}
 use Rattle.newtonian.specs.declared.Newtonian.{Newtonian}
 use Rattle.newtonian.specs.declared.Vector.{Vector}
@@ -33,7 +33,7 @@ use Rattle.sheet.specs.Writer.{station_cause}
 use Rattle.sheet_laws.specs.Reading.{rows-length}
 use Rattle.writer_rows.specs.Rows.{RowPut, count_before, RowsPut}
 
-pub not_none : (r : Refusal) → Refused r ≡ None → ⊥
+pub not_none : (r : Refusal) → ◌≡◌ {A = Cause} (Err r) (Ok tt) → ⊥
 not_none r e = let z : ◌≡◌ {A = ℕ} 0 1 = cc in omega arith
 
 -- the row of station i is that of its field
@@ -44,24 +44,24 @@ row_is kind i m b v f st q e = row_made kind i m b (vertex st i) v f q e
 
 module _ (s : SheetInput) (i : ℕ) where
   -- the station's cause, of a field that was given or refused
-  pub of_row : (row : Row) (b : Bool) → value row ≡ row_at s i → is_finite_row s.kind row ≡ b → unless b (NotFinite i) ≡ station_cause s i
+  pub of_row : (row : Row) (b : Bool) → Ok row ≡ row_at s i → is_finite_row s.kind row ≡ b → unless b (NotFinite i) ≡ station_cause s i
   unfolding station_cause row_cause
   of_row row b e f = rw (← e, f)
 
-  pub of_refused : (r : Refusal) → refused r ≡ row_at s i → Refused r ≡ station_cause s i
+  pub of_refused : (r : Refusal) → Err r ≡ row_at s i → Err r ≡ station_cause s i
   unfolding station_cause row_cause
   of_refused r e = rw (← e)
 
-  numbers-length : (a : Answer Row) → row_cause s.kind i a ≡ None → length (numbers_of s a) ≡ row_width s.kind
+  numbers-length : (a : Answer Row) → row_cause s.kind i a ≡ Ok tt → length (numbers_of s a) ≡ row_width s.kind
   unfolding row_cause row_numbers
-  numbers-length (value row) e = refl
-  numbers-length (refused r) e = absurd (not_none r e)
+  numbers-length (Ok row) e = refl
+  numbers-length (Err r) e = absurd (not_none r e)
 
-  pub row-length : station_cause s i ≡ None → length (numbers_of s (row_at s i)) ≡ row_width s.kind
+  pub row-length : station_cause s i ≡ Ok tt → length (numbers_of s (row_at s i)) ≡ row_width s.kind
   unfolding station_cause
   row-length e = numbers-length (row_at s i) e
 
-module _ (s : SheetInput) (k : ℕ) (none : first_of k (station_cause s) ≡ None) where
+module _ (s : SheetInput) (k : ℕ) (none : first_of k (station_cause s) ≡ Ok tt) where
   pub numbers_so_far : length (rows s k) ≡ row_width s.kind * k
   numbers_so_far = rows-length s (row_width s.kind) k (λ i l. row-length s i (each k (station_cause s) none i l))
 
@@ -81,44 +81,44 @@ module _ (s : SheetInput) (k : ℕ) (none : first_of k (station_cause s) ≡ Non
 
 -- ---- how many stations come before the first refused one
 
-pub count-all : (n : ℕ) (c : ℕ → Cause) → first_of n c ≡ None → count_before n c ≡ n
+pub count-all : (n : ℕ) (c : ℕ → Cause) → first_of n c ≡ Ok tt → count_before n c ≡ n
 unfolding count_before
 count-all zero c e = refl
 count-all (suc n) c e = rw e
 
-count-first : (n i : ℕ) (c : ℕ → Cause) (r : Refusal) → i < n → first_of i c ≡ None → c i ≡ Refused r → count_before n c ≡ i
+count-first : (n i : ℕ) (c : ℕ → Cause) (r : Refusal) → i < n → first_of i c ≡ Ok tt → c i ≡ Err r → count_before n c ≡ i
 unfolding count_before
 count-first zero i c r l p q = absurd (omega arith)
 count-first (suc n) i c r l p q =
     ap (λ (d : Cause). cause_or (λ x. count_before n c) d (suc n)) (stop (suc n) i c r l p q)
-    ∙ ⊎_elim (λ e. count-all n c (subst (λ (k : ℕ). first_of k c ≡ None) e p) ∙ sym e) (λ m. count-first n i c r m p q) (eq-or-lt_of_le (le_of_suc-le-suc l))
+    ∙ ⊎_elim (λ e. count-all n c (subst (λ (k : ℕ). first_of k c ≡ Ok tt) e p) ∙ sym e) (λ m. count-first n i c r m p q) (eq-or-lt_of_le (le_of_suc-le-suc l))
 
 -- ---- what is written, or left
 
 -- a row that is not refused is written, and after a refusal the bytes are as they were
 module _ (s : SheetInput) (i at : ℕ) {c : Cause} {o p : List ℕ} (h : RowPut s i at c o p) where
-  pub row_written : c ≡ None → p ≡ sets o at (pack 8 (bits (numbers_of s (row_at s i))))
+  pub row_written : c ≡ Ok tt → p ≡ sets o at (pack 8 (bits (numbers_of s (row_at s i))))
   row_written e = h.bytes ∙ ap (λ (d : Cause). cause_or (λ q. o) d (sets o at (pack 8 (bits (numbers_of s (row_at s i)))))) e
 
-  pub row-left : (r : Refusal) → c ≡ Refused r → p ≡ o
+  pub row-left : (r : Refusal) → c ≡ Err r → p ≡ o
   row-left r e = h.bytes ∙ ap (λ (d : Cause). cause_or (λ q. o) d (sets o at (pack 8 (bits (numbers_of s (row_at s i)))))) e
 
 -- where none is refused, all rows are written
-pub none-refused : (s : SheetInput) (at : ℕ) {r : Cause} {o p : List ℕ} → RowsPut s at r o p → r ≡ None → p ≡ sets o at (pack 8 (bits (rows s (station_count s))))
+pub none-refused : (s : SheetInput) (at : ℕ) {r : Cause} {o p : List ℕ} → RowsPut s at r o p → r ≡ Ok tt → p ≡ sets o at (pack 8 (bits (rows s (station_count s))))
 none-refused s at {o = o} h e =
     h.bytes ∙ ap (λ (n : ℕ). sets o at (pack 8 (bits (rows s n)))) (count-all (station_count s) (station_cause s) (sym h.cause ∙ e))
 
 -- station i is refused, and the rows before it are written
-pub up_to-refused : (s : SheetInput) (l : List ℕ) (at i : ℕ) (r : Refusal) {o : List ℕ} → i < station_count s → first_of i (station_cause s) ≡ None
-    → station_cause s i ≡ Refused r → o ≡ sets l at (pack 8 (bits (rows s i))) → RowsPut s at (Refused r) l o
+pub up_to-refused : (s : SheetInput) (l : List ℕ) (at i : ℕ) (r : Refusal) {o : List ℕ} → i < station_count s → first_of i (station_cause s) ≡ Ok tt
+    → station_cause s i ≡ Err r → o ≡ sets l at (pack 8 (bits (rows s i))) → RowsPut s at (Err r) l o
 up_to-refused s l at i r m p q e = record {
   cause = sym (stop (station_count s) i (station_cause s) r m p q);
   bytes = e ∙ ap (λ (n : ℕ). sets l at (pack 8 (bits (rows s n)))) (sym (count-first (station_count s) i (station_cause s) r m p q));
 }
 
 -- all rows are written
-pub all-rows : (s : SheetInput) (l : List ℕ) (at i : ℕ) {o : List ℕ} → i ≡ station_count s → first_of i (station_cause s) ≡ None → o ≡ sets l at (pack 8 (bits (rows s i)))
-    → RowsPut s at None l o
+pub all-rows : (s : SheetInput) (l : List ℕ) (at i : ℕ) {o : List ℕ} → i ≡ station_count s → first_of i (station_cause s) ≡ Ok tt → o ≡ sets l at (pack 8 (bits (rows s i)))
+    → RowsPut s at (Ok tt) l o
 all-rows s l at i e p q =
-    let none = subst (λ (m : ℕ). first_of m (station_cause s) ≡ None) e p in
+    let none = subst (λ (m : ℕ). first_of m (station_cause s) ≡ Ok tt) e p in
     record { cause = sym none; bytes = q ∙ ap (λ (m : ℕ). sets l at (pack 8 (bits (rows s m)))) (e ∙ sym (count-all (station_count s) (station_cause s) none)) }

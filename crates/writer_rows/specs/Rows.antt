@@ -3,10 +3,10 @@ use Rattle.std.specs.Prelude.{◌≡◌, List, ℕ, zero, suc, ◌+◌, ◌≤�
 use Rattle.std.proofs.lemmas.List.Edits.{sets}
 use Rattle.refusals.specs.Causes.{cause_or, first_of}
 use Rattle.refusals.specs.declared.Refusal.{Refusal}
-use Rattle.refusals.specs.declared.Cause.{Cause}
-use Rattle.refusals.specs.declared.Cause.TheVariants.{None, Refused}
-use Rattle.newtonian.specs.Field.{answer_of}
-use Rattle.newtonian.specs.declared.Field.{Field}
+use Rattle.std.specs.Prelude.{Ok, Err}
+use Rattle.refusals.specs.Answer.{Answer}
+use Rattle.refusals.specs.Causes.{Cause}
+use Rattle.newtonian.specs.declared.Newtonian.{Newtonian}
 use Rattle.mesh.specs.Surface.{vertex}
 use Rattle.polyhedron_fields.specs.BlockFields.{no_field}
 use Rattle.sheet_rows.specs.Row.{field_at}
@@ -33,15 +33,15 @@ pub record RowsPut (s : SheetInput) (at : ℕ) (r : Cause) (o p : List ℕ) : Ty
 -- ---- between two blocks of stations
 
 -- the list q has the fields of the n stations from the one with the number first on; v is the vertex list, f the face list and st the stations
-pub record FieldsAt (kind first n : ℕ) (v : List Float) (f : List ℕ) (st : List Float) (q : List Field) : Type 0 where
-  pub at : (j : ℕ) → j < n → answer_of (get_or q j no_field) ≡ field_at kind (first + j) (vertex st (first + j)) v f
+pub record FieldsAt (kind first n : ℕ) (v : List Float) (f : List ℕ) (st : List Float) (q : List (Answer Newtonian)) : Type 0 where
+  pub at : (j : ℕ) → j < n → get_or q j no_field ≡ field_at kind (first + j) (vertex st (first + j)) v f
 
 -- the first k stations are not refused, and their rows stand from place at on
 pub record RowsUpTo (s : SheetInput) (at k : ℕ) (o p : List ℕ) : Type 0 where
-  pub none : first_of k (station_cause s) ≡ None
+  pub none : first_of k (station_cause s) ≡ Ok tt
   pub bytes : p ≡ sets o at (pack 8 (bits (rows s k)))
 
 -- what follows once the cause r of the stations up to k is known: their rows stand there, or the rows are done
 pub record BlockPut (s : SheetInput) (at k : ℕ) (r : Cause) (o p : List ℕ) : Type 0 where
-  pub on : r ≡ None → RowsUpTo s at k o p
-  pub over : (q : Refusal) → r ≡ Refused q → k ≤ station_count s → RowsPut s at r o p
+  pub on : r ≡ Ok tt → RowsUpTo s at k o p
+  pub over : (q : Refusal) → r ≡ Err q → k ≤ station_count s → RowsPut s at r o p

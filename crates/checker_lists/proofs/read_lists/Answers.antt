@@ -6,10 +6,9 @@ use Rattle.checker_lists.proofs.read_lists.Goals as goal
 
 pub returns : goal.returns
 returns c =
-    let b = c.args.sheet.now in
+    let b = c.args.sheet.bytes.now in
     record {
-      opened = c.requires.opened;
       vertices = c.read_f64s.ensures ∙ vertices_loaded b c.requires.vertices;
-      faces = c.read_u32s.ensures ∙ faces_loaded b c.requires.faces (omega (arith, c.vertices-v.ensures));
-      order = c.read_u32s-2.ensures ∙ order_loaded b c.requires.order (omega (arith, c.vertices-v.ensures, c.faces-f.ensures));
+      faces = c.read_u32s.ensures ∙ faces_loaded b c.requires.faces (omega (arith, c.args.sheet.read.vertices));
+      order = c.read_u32s-2.ensures ∙ order_loaded b c.requires.order (omega (arith, c.args.sheet.read.vertices, c.args.sheet.read.faces));
     }

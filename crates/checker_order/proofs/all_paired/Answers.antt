@@ -1,6 +1,5 @@
 -- `checker_order::all_paired` meets its contract: the mates so far are paired. Assumes nothing.
 use mathlib.Core.Path.{sym}
-use Prim.Native.Nat.{◌-◌}
 use native.Mathlib.Omega.{arith}
 use borrow.Author.Count.{below_none}
 use Rattle.lists.proofs.Numbers.{true≢false}

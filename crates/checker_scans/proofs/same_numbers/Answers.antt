@@ -1,6 +1,5 @@
 -- `checker_scans::same_numbers` meets its contract: the numbers so far have the bits of those given. Assumes nothing.
 use mathlib.Core.Path.{sym, ◌∙◌}
-use Prim.Native.Nat.{ℕ, ◌-◌, ◌<◌}
 use native.Mathlib.Omega.{arith}
 use Rattle.checker_scans.proofs.Compare.{same, other}
 use borrow.Author.Count.{below_more, below_none}

@@ -1,55 +1,46 @@
 -- `checker_stations::check_block` meets its contract: none of the stations so far is refused. Assumes nothing.
+use Rattle.std.proofs.lemmas.Result.{err_from_is_err_and}
 use mathlib.Core.Path.{◌≡◌, refl, sym, ◌∙◌, subst}
-use Prim.Native.Nat.{ℕ, ◌+◌, ◌-◌, ◌<◌}
+use Prim.Native.Nat.{ℕ, ◌+◌}
 use native.Mathlib.Omega.{arith}
 use Rattle.refusals.specs.Causes.{first_of}
-use Rattle.refusals.specs.declared.Cause.{Cause}
-use Rattle.refusals.specs.declared.Cause.TheVariants.{None}
+use Rattle.std.specs.Prelude.{Ok}
+use Rattle.refusals.specs.Causes.{Cause}
 use Rattle.refusals.proofs.Causes.{more, stop}
-use Rattle.sheet.specs.Checker.{stations_in, parse, check_station}
+use Rattle.sheet.specs.Checker.{parse, check_station}
 use Rattle.checker_stations.proofs.check_block.Goals as goal
 
-none : (c : ℕ → Cause) → first_of 0 c ≡ None
+none : (c : ℕ → Cause) → first_of 0 c ≡ Ok tt
 unfolding first_of
 none c = refl
 
 pub loop-j-init : goal.loop-j-init
 loop-j-init c = (omega arith, none _)
 
-pub check_station-cause-requires : goal.check_station-cause-requires
-check_station-cause-requires c =
-    let within : c.args.first + c.loop-j.j < stations_in c.args.sheet.now = omega (arith, c.loop-j-test.true, c.requires.2) in
+pub check_station-requires : goal.check_station-requires
+check_station-requires c =
     let p = c.requires in
-    (p.0, within, p.3, p.4, p.5 c.loop-j.j c.loop-j-test.true)
+    let e = c.number.ensures in
+    (omega (arith, e, c.loop-j-test.true, p.0), rw e (p.1 c.loop-j.j c.loop-j-test.true))
 
-pub returns-in-Refused : goal.returns-in-Refused
-returns-in-Refused c =
-    let a = c.args in
-    let b = a.sheet.now in
-    sym (stop a.n c.loop-j.j (λ i. check_station b (parse b) (a.first + i)) _ c.loop-j-test.true c.loop-j.invariant.1 (sym c.check_station-cause.ensures ∙ c.in-Refused.is))
+pub returns-in_err-check_station : goal.returns-in_err-check_station
+returns-in_err-check_station c =
+    let b = c.args.sheet.bytes.now in
+    let s = c.args.block.now in
+    let told = rw c.number.ensures at (sym c.check_station.ensures ∙ c.in_err-check_station.was) in
+    let p = err_from_is_err_and c.from_residual.result c.from_residual.ensures.1 in
+    rw (p.1, p.2) (sym (stop s.n c.loop-j.j (λ i. check_station b (parse b) (s.first + i)) _ c.loop-j-test.true c.loop-j.invariant.1 told))
 
 pub loop-j-preserved : goal.loop-j-preserved
 loop-j-preserved c =
-    let a = c.args in
-    let b = a.sheet.now in
-    (omega (arith, c.loop-j-test.true), more c.loop-j.j (λ i. check_station b (parse b) (a.first + i)) c.loop-j.invariant.1 (sym c.check_station-cause.ensures ∙ c.in_default.is))
+    let b = c.args.sheet.bytes.now in
+    let s = c.args.block.now in
+    let told = rw c.number.ensures at (sym c.check_station.ensures ∙ c.in_ok-check_station.was) in
+    (omega (arith, c.loop-j-test.true), more c.loop-j.j (λ i. check_station b (parse b) (s.first + i)) c.loop-j.invariant.1 told)
 
 pub returns : goal.returns
 returns c =
-    let a = c.args in
-    let b = a.sheet.now in
-    let e : c.loop-j.j ≡ a.n = omega arith in
-    sym (subst (λ (k : ℕ). first_of k (λ i. check_station b (parse b) (a.first + i)) ≡ None) e c.loop-j.invariant.1)
-
-pub bounds-fields-j : goal.bounds-fields-j
-bounds-fields-j c = omega (arith, c.loop-j-test.true, c.requires.1)
-
-pub overflow_add-first : goal.overflow_add-first
-overflow_add-first c =
-    let within : c.args.first + c.loop-j.j < stations_in c.args.sheet.now = omega (arith, c.loop-j-test.true, c.requires.2) in
-    omega (arith, within, c.requires.0.stations)
-
-pub overflow_cast-first : goal.overflow_cast-first
-overflow_cast-first c =
-    let within : c.args.first + c.loop-j.j < stations_in c.args.sheet.now = omega (arith, c.loop-j-test.true, c.requires.2) in
-    omega (arith, within, c.requires.0.stations)
+    let b = c.args.sheet.bytes.now in
+    let s = c.args.block.now in
+    let e : c.loop-j.j ≡ s.n = omega arith in
+    sym (subst (λ (k : ℕ). first_of k (λ i. check_station b (parse b) (s.first + i)) ≡ Ok tt) e c.loop-j.invariant.1)

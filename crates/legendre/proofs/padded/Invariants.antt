@@ -1,4 +1,4 @@
--- `legendre::padded` meets its contract. The invariant: after i turns the array holds the first i entries, and zeros after them. Assumes nothing.
+-- The loop of `legendre::padded`: the array holds the first i entries, and zeros after them.
 use mathlib.Core.Path.{◌≡◌}
 use Prim.Native.Nat.{◌+◌}
 use Rattle.legendre.specs.GaussLegendre.{entry, padded}

@@ -1,29 +1,39 @@
 -- `mesh_check::check_order` meets its contract: the causes 5 to 8 in order. Assumes nothing.
 use mathlib.Core.Path.{sym, ◌∙◌}
 use native.Mathlib.Omega.{arith}
+use Rattle.std.proofs.lemmas.Result.{err_from_is_err_and}
 use Rattle.mesh_orders.specs.Order.{order_list}
 use Rattle.mesh.specs.Check.{order_cause}
 use Rattle.mesh_check.proofs.Partners.{holds-mates}
 use Rattle.mesh_check.proofs.EdgeReturns.{refused_none, no_edge-cause}
 use Rattle.mesh_check.proofs.check_order.Goals as goal
 
-pub returns-in-Refused : goal.returns-in-Refused
+pub returns-in_err-flipped_edge : goal.returns-in_err-flipped_edge
 unfolding order_cause
-returns-in-Refused c =
-    let v = c.args.verts.now in
-    let f = c.args.faces.now in record { value = simp (← c.flipped_edge-flipped.ensures, c.in-Refused.is); holds_mates = λ n. absurd (refused_none _ _ (sym c.flipped_edge-flipped.ensures ∙ c.in-Refused.is) (no_edge-cause v f (order_list f) n).0) }
+returns-in_err-flipped_edge c =
+    let e = sym c.flipped_edge.ensures ∙ c.in_err-flipped_edge.was in
+    let p = err_from_is_err_and c.from_residual.result c.from_residual.ensures.1 in
+    record { value = rw (p.1, p.2) (simp e); holds_mates = λ n. absurd (refused_none _ _ e (no_edge-cause c.args.mesh.verts.now c.args.mesh.faces.now (order_list c.args.mesh.faces.now) n).0) }
 
-pub open_edge-open-requires : goal.open_edge-open-requires
-open_edge-open-requires c = (c.requires.0.faces, c.requires.1, (λ i l. omega (arith, c.requires.0.inside i l, c.requires.2)), c.requires.3)
+pub open_edge-requires : goal.open_edge-requires
+open_edge-requires c = (c.args.mesh.body.faces, c.requires.0, (λ i l. omega (arith, c.args.mesh.body.inside i l, c.requires.1)), c.requires.2)
 
-pub returns-in-Refused-open : goal.returns-in-Refused-open
+pub returns-in_err-open_edge : goal.returns-in_err-open_edge
 unfolding order_cause
-returns-in-Refused-open c =
-    let v = c.args.verts.now in
-    let f = c.args.faces.now in record { value = simp (← c.flipped_edge-flipped.ensures, c.in_default.is, ← c.open_edge-open.ensures.value, c.in-Refused-open.is); holds_mates = λ n. absurd (refused_none _ _ (sym c.open_edge-open.ensures.value ∙ c.in-Refused-open.is) (no_edge-cause v f (order_list f) n).1) }
+returns-in_err-open_edge c =
+    let d = sym c.flipped_edge.ensures ∙ c.in_ok-flipped_edge.was in
+    let e = sym c.open_edge.ensures.value ∙ c.in_err-open_edge.was in
+    let p = err_from_is_err_and c.from_residual-in_err-open_edge.result c.from_residual-in_err-open_edge.ensures.1 in
+    record { value = rw (p.1, p.2) (simp (d, e)); holds_mates = λ n. absurd (refused_none _ _ e (no_edge-cause c.args.mesh.verts.now c.args.mesh.faces.now (order_list c.args.mesh.faces.now) n).1) }
 
 pub returns : goal.returns
 unfolding order_cause
 returns c =
-    let v = c.args.verts.now in
-    let f = c.args.faces.now in record { value = simp (← c.flipped_edge-flipped.ensures, c.in_default.is, ← c.open_edge-open.ensures.value, c.in_default-open.is) c.check_faces.ensures; holds_mates = λ n. holds-mates f _ c.requires.0.faces (no_edge-cause v f (order_list f) n).0 (no_edge-cause v f (order_list f) n).1 c.open_edge-open.ensures.placed }
+    let v = c.args.mesh.verts.now in
+    let f = c.args.mesh.faces.now in
+    let d = sym c.flipped_edge.ensures ∙ c.in_ok-flipped_edge.was in
+    let e = sym c.open_edge.ensures.value ∙ c.in_ok-open_edge.was in
+    record {
+      value = simp (d, e) c.check_faces.ensures;
+      holds_mates = λ n. let no = no_edge-cause v f (order_list f) n in holds-mates f _ c.args.mesh.body.faces no.0 no.1 c.open_edge.ensures.placed;
+    }

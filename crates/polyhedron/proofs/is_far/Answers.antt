@@ -4,4 +4,4 @@ use Rattle.polyhedron.proofs.is_far.Goals as goal
 
 pub returns : goal.returns
 unfolding is_far
-returns c = simp (c.root.ensures, c.squared_distance.ensures)
+returns c = simp (c.root.ensures, c.squared_distance-squared.ensures)

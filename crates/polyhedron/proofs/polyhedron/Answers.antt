@@ -1,45 +1,58 @@
 -- `polyhedron::polyhedron` meets its contract. Assumes nothing.
 use mathlib.Core.Path.{sym, ap, ◌∙◌}
 use lib.ListN.{length}
+use Rattle.std.proofs.lemmas.Result.{err_from_is_err_and}
 use Rattle.mesh_orders.specs.OrderLaws.{order-length}
 use Rattle.polyhedron.proofs.Answers.{not-given, counted, not-accepted, Success, success}
 use Rattle.polyhedron.proofs.polyhedron.Goals as goal
 
-pub returns-in-Refused : goal.returns-in-Refused
-returns-in-Refused c = let whole = not-given c.args.station c.args.verts.now c.args.faces.now c.args.work.now c.in-Refused.r (sym c.given_cause-given.ensures ∙ c.in-Refused.is) in record { result_value = whole.0; work_after = whole.1 }
+pub returns-in_err-given_cause : goal.returns-in_err-given_cause
+returns-in_err-given_cause c =
+    let whole = not-given c.args.station c.args.verts.now c.args.faces.now c.args.work.now _ (sym c.given_cause.ensures ∙ c.in_err-given_cause.was) in
+    let p = err_from_is_err_and c.from_residual.result c.from_residual.ensures.1 in
+    record { result_value = rw (p.1, p.2) whole.0; work_after = whole.1 }
 
-pub check_surface-surface-requires : goal.check_surface-surface-requires
-check_surface-surface-requires c = counted c.args.station c.args.verts.now c.args.faces.now c.args.work.now (sym c.given_cause-given.ensures ∙ c.in_default.is)
+pub check_surface-requires : goal.check_surface-requires
+check_surface-requires c = counted c.args.station c.args.verts.now c.args.faces.now c.args.work.now (sym c.given_cause.ensures ∙ c.in_ok-given_cause.was)
 
-pub returns-in-Refused-surface : goal.returns-in-Refused-surface
-returns-in-Refused-surface c =
-    let k = c.check_surface-surface in let whole = not-accepted c.args.station c.args.verts.now c.args.faces.now c.args.work.now (sym c.given_cause-given.ensures ∙ c.in_default.is)
-    k.new.work k.ensures.work_after c.in-Refused-surface.r (sym k.ensures.value ∙ c.in-Refused-surface.is) in record { result_value = whole.0; work_after = whole.1 }
+pub returns-in_err-check_surface : goal.returns-in_err-check_surface
+returns-in_err-check_surface c =
+    let k = c.check_surface in
+    let whole = not-accepted c.args.station c.args.verts.now c.args.faces.now c.args.work.now (sym c.given_cause.ensures ∙ c.in_ok-given_cause.was)
+    k.new.work k.ensures.work_after _ (sym k.ensures.value ∙ c.in_err-check_surface.was) in
+    let p = err_from_is_err_and c.from_residual-in_err-check_surface.result c.from_residual-in_err-check_surface.ensures.1 in
+    record { result_value = rw (p.1, p.2) whole.0; work_after = whole.1 }
 
 pub slice_bounds-single_point-end : goal.slice_bounds-single_point-end
 slice_bounds-single_point-end c =
-    let accepted : Success c.args.station c.args.verts.now c.args.faces.now c.args.work.now c.check_surface-surface.new.work = let k = c.check_surface-surface in
-    success c.args.station c.args.verts.now c.args.faces.now c.args.work.now (sym c.given_cause-given.ensures ∙ c.in_default.is)
-    k.new.work k.ensures.work_after c.in_default-surface.field-0 (sym k.ensures.value ∙ c.in_default-surface.is) in
-    accepted.room
+    let k = c.check_surface in
+    (success c.args.station c.args.verts.now c.args.faces.now c.args.work.now (sym c.given_cause.ensures ∙ c.in_ok-given_cause.was)
+    k.new.work k.ensures.work_after _ (sym k.ensures.value ∙ c.in_ok-check_surface.was)).room
 
 pub slice_bounds-single_point-end-2 : goal.slice_bounds-single_point-end-2
 slice_bounds-single_point-end-2 c =
-    let accepted : Success c.args.station c.args.verts.now c.args.faces.now c.args.work.now c.check_surface-surface.new.work = let k = c.check_surface-surface in
-    success c.args.station c.args.verts.now c.args.faces.now c.args.work.now (sym c.given_cause-given.ensures ∙ c.in_default.is)
-    k.new.work k.ensures.work_after c.in_default-surface.field-0 (sym k.ensures.value ∙ c.in_default-surface.is) in
-    sym (ap length accepted.front ∙ order-length c.args.faces.now)
+    let k = c.check_surface in
+    sym (ap length (success c.args.station c.args.verts.now c.args.faces.now c.args.work.now (sym c.given_cause.ensures ∙ c.in_ok-given_cause.was)
+    k.new.work k.ensures.work_after _ (sym k.ensures.value ∙ c.in_ok-check_surface.was)).front ∙ order-length c.args.faces.now)
+
+pub invariant_of-single_point : goal.invariant_of-single_point
+invariant_of-single_point c =
+    let k = c.check_surface in
+    record {
+      body = (success c.args.station c.args.verts.now c.args.faces.now c.args.work.now (sym c.given_cause.ensures ∙ c.in_ok-given_cause.was)
+          k.new.work k.ensures.work_after _ (sym k.ensures.value ∙ c.in_ok-check_surface.was)).body;
+    }
 
 pub single_point-requires : goal.single_point-requires
 single_point-requires c =
-    let accepted : Success c.args.station c.args.verts.now c.args.faces.now c.args.work.now c.check_surface-surface.new.work = let k = c.check_surface-surface in
-    success c.args.station c.args.verts.now c.args.faces.now c.args.work.now (sym c.given_cause-given.ensures ∙ c.in_default.is)
-    k.new.work k.ensures.work_after c.in_default-surface.field-0 (sym k.ensures.value ∙ c.in_default-surface.is) in
-    (accepted.body, accepted.front)
+    let k = c.check_surface in
+    (success c.args.station c.args.verts.now c.args.faces.now c.args.work.now (sym c.given_cause.ensures ∙ c.in_ok-given_cause.was)
+    k.new.work k.ensures.work_after _ (sym k.ensures.value ∙ c.in_ok-check_surface.was)).front
 
 pub returns : goal.returns
 returns c =
-    let accepted : Success c.args.station c.args.verts.now c.args.faces.now c.args.work.now c.check_surface-surface.new.work = let k = c.check_surface-surface in
-    success c.args.station c.args.verts.now c.args.faces.now c.args.work.now (sym c.given_cause-given.ensures ∙ c.in_default.is)
-    k.new.work k.ensures.work_after c.in_default-surface.field-0 (sym k.ensures.value ∙ c.in_default-surface.is) in
+    let k = c.check_surface in
+    let accepted : Success c.args.station c.args.verts.now c.args.faces.now c.args.work.now k.new.work =
+    success c.args.station c.args.verts.now c.args.faces.now c.args.work.now (sym c.given_cause.ensures ∙ c.in_ok-given_cause.was)
+    k.new.work k.ensures.work_after _ (sym k.ensures.value ∙ c.in_ok-check_surface.was) in
     let whole = accepted.answered _ c.single_point.ensures in record { result_value = whole.0; work_after = whole.1 }

@@ -4,4 +4,4 @@ use Rattle.polyhedron.proofs.single_point.Goals as goal
 
 pub returns : goal.returns
 unfolding polyhedron_at
-returns c = simp (c.polyhedron_at.ensures, c.radius-r.ensures, c.centroid-c.ensures)
+returns c = simp (c.polyhedron_at.ensures, c.of.ensures.1, c.of.ensures.0)

@@ -8,10 +8,10 @@ use Rattle.polyhedron_centroid.proofs.farthest.Goals as goal
 
 pub fold_used-requires : goal.fold_used-requires
 fold_used-requires c = record {
-  faces = (c.requires.0.faces, c.requires.1);
+  faces = (c.args.mesh.body.faces, c.requires);
   steps = record {
-    bound = vertex_count c.args.verts.now;
-    inside = c.requires.0.inside;
+    bound = vertex_count c.args.mesh.verts.now;
+    inside = c.args.mesh.body.inside;
     steps = λ m. 0;
     begins = refl;
     grows = λ i a r p. omega arith;
@@ -20,4 +20,4 @@ fold_used-requires c = record {
 }
 
 pub returns : goal.returns
-returns c = let v = c.args.verts.now in c.fold_used.ensures (farther c.args.c v) (vertex_count v) (λ i a r p. search rules) c.requires.0.inside
+returns c = let v = c.args.mesh.verts.now in c.fold_used.ensures (farther c.args.c v) (vertex_count v) (λ i a r p. search rules) c.args.mesh.body.inside

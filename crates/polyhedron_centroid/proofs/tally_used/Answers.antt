@@ -10,12 +10,12 @@ use Rattle.polyhedron_centroid.proofs.tally_used.Goals as goal
 pub fold_used-requires : goal.fold_used-requires
 unfolding no_tally add_vertex
 fold_used-requires c =
-    let v = c.args.verts.now in
+    let v = c.args.mesh.verts.now in
     record {
-      faces = (c.requires.0.faces, c.requires.1);
+      faces = (c.args.mesh.body.faces, c.requires);
       steps = record {
         bound = vertex_count v;
-        inside = c.requires.0.inside;
+        inside = c.args.mesh.body.inside;
         steps = λ t. t.count;
         begins = ap (λ (t : Tally). t.count) c.no_tally.ensures;
         grows = λ i a r p. let e : r ≡ add_vertex v i a = search rules in omega (arith, ap (λ (t : Tally). t.count) e);
@@ -26,7 +26,7 @@ fold_used-requires c =
 pub returns : goal.returns
 unfolding tally_used
 returns c =
-    let v = c.args.verts.now in
-    let f = c.args.faces.now in
-    c.fold_used.ensures (add_vertex v) (vertex_count v) (λ i a r p. search rules) c.requires.0.inside
+    let v = c.args.mesh.verts.now in
+    let f = c.args.mesh.faces.now in
+    c.fold_used.ensures (add_vertex v) (vertex_count v) (λ i a r p. search rules) c.args.mesh.body.inside
     ∙ ap (over_used f (vertex_count v) (add_vertex v)) c.no_tally.ensures

@@ -14,5 +14,5 @@ loop-k-preserved c = (omega (arith, c.loop-k-test.true), rw fold_more (simp (c.a
 pub returns : goal.returns
 returns c =
     let l = c.loop-k in
-    let e : l.k ≡ face_count c.args.faces.now = omega (arith, l.invariant.0, c.loop-k-test.false) in
+    let e : l.k ≡ face_count c.args.mesh.faces.now = omega (arith, l.invariant.0, c.loop-k-test.false) in
     rw e at l.invariant.1

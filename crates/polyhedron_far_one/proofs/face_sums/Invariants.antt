@@ -9,4 +9,4 @@ use Rattle.polyhedron_far_one.proofs.face_sums.Given as goal
 
 abbrev pub invariant-loop-k : goal.invariant-loop-k
 invariant-loop-k l =
-    (l.k ≤ face_count l.faces) × (l.sums.pairs ≡ Fold l.k (add_tetrahedron l.p l.apex l.verts l.faces) no_sums)
+    (l.k ≤ face_count l.mesh.faces.now) × (l.sums.pairs ≡ Fold l.k (add_tetrahedron l.p l.apex l.mesh.verts.now l.mesh.faces.now) no_sums)

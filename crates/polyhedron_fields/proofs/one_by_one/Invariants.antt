@@ -1,16 +1,11 @@
 -- `polyhedron_fields::one_by_one` meets its contract: before turn j the fields of j stations are in their places. Assumes nothing.
-use mathlib.Core.Path.{◌≡◌}
-use Prim.Native.Nat.{ℕ, ◌+◌, ◌-◌, ◌≤◌, ◌<◌}
-use lib.ListN.{get_or, length}
-use Rattle.newtonian.specs.Field.{answer_of}
-use Rattle.polyhedron_blocks.specs.Blocks.{block_size, no_vector}
+use Rattle.std.proofs.Common.{◌≡◌, ◌+◌, ◌<◌, ℕ, get_or}
+use Rattle.polyhedron_blocks.specs.Blocks.{no_vector}
 use Rattle.polyhedron.specs.Polyhedron.{polyhedron_from}
 use Rattle.polyhedron_fields.specs.BlockFields.{no_field}
 use Rattle.polyhedron_fields.proofs.one_by_one.Given as goal
 
 abbrev pub invariant-loop-j : goal.invariant-loop-j
 invariant-loop-j l =
-    (l.j ≤ l.n) × (length l.out ≡ block_size) × ((i : ℕ) → i < l.j → answer_of (get_or l.out i no_field) ≡ polyhedron_from (l.first + i) (get_or l.places i no_vector) l.c l.r l.verts l.faces)
-
-abbrev pub decreases-loop-j : goal.decreases-loop-j
-decreases-loop-j l = l.n - l.j
+    let s = l.stations in
+    (i : ℕ) → i < l.j → get_or l.answer-items i no_field ≡ polyhedron_from (s.first + i) (get_or s.places i no_vector) l.center.centroid l.center.radius l.mesh.verts.now l.mesh.faces.now

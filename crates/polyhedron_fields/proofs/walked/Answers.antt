@@ -47,8 +47,8 @@ loop-k-preserved c =
     let a = c.args in
     let e : l.k + c.min-m.result ≡ l.k + 8 = omega (arith, c.min-m.ensures) in (
       omega arith,
-      λ i h q. nearer (get_or a.places i no_vector) a.c a.verts.now a.faces.now l.k c.min-m.result (l.k + 8) e _ _ (c.add_near_faces.ensures i h q) (l.invariant.1 i h q),
-      λ i h q. farther (get_or a.places i no_vector) a.c a.verts.now a.faces.now l.k c.min-m.result (l.k + 8) e _ _ (c.add_far_faces.ensures.at i h q) (l.invariant.2 i h q),
+      λ i h q. nearer (get_or a.stations.now.places i no_vector) a.center.centroid a.mesh.verts.now a.mesh.faces.now l.k c.min-m.result (l.k + 8) e _ _ (c.add_near_faces.ensures i h q) (l.invariant.1 i h q),
+      λ i h q. farther (get_or a.stations.now.places i no_vector) a.center.centroid a.mesh.verts.now a.mesh.faces.now l.k c.min-m.result (l.k + 8) e _ _ (c.add_far_faces.ensures.at i h q) (l.invariant.2 i h q),
     )
 
 pub returns : goal.returns
@@ -56,9 +56,9 @@ unfolding sums_of
 returns c =
     let l = c.loop-k in
     let a = c.args in
-    let v = a.verts.now in
-    let f = a.faces.now in
-    let w : AllFaces a.c v f a.places c.near_of.result c.near_of-2.result c.loop-k-test.runs c.loop-k-test.sums =
+    let v = a.mesh.verts.now in
+    let f = a.mesh.faces.now in
+    let w : AllFaces a.center.centroid v f a.stations.now.places c.near.result c.near-2.result c.loop-k-test.runs c.loop-k-test.sums =
     elim c.loop-k-test.branch [
       | else-loop-k-test w ↦
           let e : l.k ≡ face_count f = omega (arith, l.invariant.0) in
@@ -67,12 +67,12 @@ returns c =
           let m = w.min-m.result in
           let e : l.k + m ≡ face_count f = omega (arith, w.min-m.ensures) in
           rw (w.runs-is, w.sums-is) (record {
-            on_near = λ i h q. nearer (get_or a.places i no_vector) a.c v f l.k m (face_count f) e _ _ (w.add_near_faces.ensures i h q) (l.invariant.1 i h q);
-            on_far = λ i h q. farther (get_or a.places i no_vector) a.c v f l.k m (face_count f) e _ _ (w.add_far_faces.ensures.at i h q) (l.invariant.2 i h q);
+            on_near = λ i h q. nearer (get_or a.stations.now.places i no_vector) a.center.centroid v f l.k m (face_count f) e _ _ (w.add_near_faces.ensures i h q) (l.invariant.1 i h q);
+            on_far = λ i h q. farther (get_or a.stations.now.places i no_vector) a.center.centroid v f l.k m (face_count f) e _ _ (w.add_far_faces.ensures.at i h q) (l.invariant.2 i h q);
           })
     ] in
-    c.answers.ensures a.c a.r v f (record {
-      nears = c.near_of.ensures;
+    c.answers.ensures a.center.centroid a.center.radius v f (record {
+      nears = c.near.ensures;
       near_sums = w.on_near;
-      sums_far = λ j m t. w.on_far j (omega (arith, c.requires.1)) (c.near_of-2.ensures j m ∙ sym (c.near_of.ensures j m) ∙ t);
+      sums_far = λ j m t. w.on_far j (omega (arith, a.stations.now.few)) (c.near-2.ensures j m ∙ sym (c.near.ensures j m) ∙ t);
     })

@@ -14,6 +14,6 @@ use Rattle.polyhedron_fields.proofs.walked.Given as goal
 
 abbrev pub invariant-loop-k : goal.invariant-loop-k
 invariant-loop-k l =
-    (l.k ≤ face_count l.faces)
-    × ((i : ℕ) → i < block_size → get_or l.block.near i false ≡ true → CarriesAt i (Fold l.k (λ j. add_triangle (get_or l.block.places i no_vector) (triangle_of l.verts l.faces j)) no_faces) l.runs)
-    × ((i : ℕ) → i < block_size → get_or l.not_far.near i false ≡ false → sums_at l.sums i ≡ Fold l.k (add_tetrahedron (get_or l.not_far.places i no_vector) l.c l.verts l.faces) no_sums)
+    (l.k ≤ face_count l.mesh.faces.now)
+    × ((i : ℕ) → i < block_size → get_or l.block.near i false ≡ true → CarriesAt i (Fold l.k (λ j. add_triangle (get_or l.block.places i no_vector) (triangle_of l.mesh.verts.now l.mesh.faces.now j)) no_faces) l.runs)
+    × ((i : ℕ) → i < block_size → get_or l.not_far.near i false ≡ false → sums_at l.sums i ≡ Fold l.k (add_tetrahedron (get_or l.not_far.places i no_vector) l.center.centroid l.mesh.verts.now l.mesh.faces.now) no_sums)

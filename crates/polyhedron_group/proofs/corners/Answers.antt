@@ -10,17 +10,17 @@ pub loop-i-init : goal.loop-i-init
 loop-i-init c = no_vectors
 
 pub face_in-f-requires : goal.face_in-f-requires
-face_in-f-requires c = let w = c.requires in (w.1, omega (arith, w.0.faces.few), omega arith)
+face_in-f-requires c = rw c.face_count-n.ensures (c.requires, omega (arith, c.args.mesh.body.faces.few), omega arith)
 
 pub corner-v-requires : goal.corner-v-requires
 corner-v-requires c =
     let i = c.loop-i.i in
     let l : i < 24 = c.loop-i-test.true in
-    let h : c.face_in-f.result < face_count c.args.faces.now = rw c.face_in-f.ensures (face-below c.args.first (face_count c.args.faces.now) (i % 8) c.requires.1) in
-    (c.requires.0, omega (arith, h, l))
+    let h : c.face_in-f.result < face_count c.args.mesh.faces.now = rw (c.face_in-f.ensures, c.face_count-n.ensures) (face-below c.args.first (face_count c.args.mesh.faces.now) (i % 8) c.requires) in
+    omega (arith, h, l)
 
 pub loop-i-preserved : goal.loop-i-preserved
-loop-i-preserved c = let e = c.set.ensures in rw e.written (one-vector c.loop-i.invariant (omega arith) (rw e.written at e.whole) (rw (c.corner-v.ensures, c.face_in-f.ensures)))
+loop-i-preserved c = let e = c.set.ensures in rw e.written (one-vector c.loop-i.invariant (omega arith) (rw e.written at e.whole) (rw (c.corner-v.ensures, c.face_in-f.ensures, c.face_count-n.ensures)))
 
 pub returns : goal.returns
 returns c = all-written c.loop-i.invariant (omega arith) (omega arith)

@@ -6,18 +6,18 @@ use Rattle.polyhedron_faces.proofs.SidesMade.{units}
 use Rattle.polyhedron_group.proofs.group.Goals as goal
 
 pub corners-requires : goal.corners-requires
-corners-requires c = (c.requires.0, omega (arith, c.requires.1, c.if-n-lt-FEWEST.false))
+corners-requires c = omega (arith, c.args.range.within, c.if-range-lt-FEWEST.false)
 
-pub returns-then-n-lt-FEWEST : goal.returns-then-n-lt-FEWEST
-returns-then-n-lt-FEWEST c = λ l. absurd (omega (arith, l, c.if-n-lt-FEWEST.true))
+pub returns-then-range-lt-FEWEST : goal.returns-then-range-lt-FEWEST
+returns-then-range-lt-FEWEST c = λ l. absurd (omega (arith, l, c.if-range-lt-FEWEST.true))
 
 pub returns : goal.returns
 returns c =
     λ l.
-    let a = c.args in
+    let a = c.args.range in
     let v = c.corners.new.c in
     let n = units (raw_normal v.x v.y v.z) c.raw_normals.ensures.lanes c.roots.ensures c.raw_normals.ensures.vectors c.units.ensures in
     record {
-      faces = describes a.verts.now a.faces.now a.first c.corners.ensures n c.sides.ensures.vectors c.sides.ensures.lanes;
+      faces = describes a.mesh.verts.now a.mesh.faces.now a.first c.corners.ensures n c.sides.ensures.vectors c.sides.ensures.lanes;
       dyads = record { of_side = c.side_dyads.ensures; of_face = c.face_dyads.ensures };
     }

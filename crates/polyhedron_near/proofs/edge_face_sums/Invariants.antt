@@ -6,5 +6,5 @@ use Rattle.polyhedron_edge_face_sums.specs.Carried.{Carries}
 use Rattle.polyhedron_edge_face_sums.specs.EdgeFaceSums.{add_triangle, no_faces, triangle_of}
 use Rattle.polyhedron_near.proofs.edge_face_sums.Given as goal
 
-abbrev pub invariant-loop-k : goal.invariant-loop-k
-invariant-loop-k l = (l.k ≤ face_count l.faces) × Carries (Fold l.k (λ j. add_triangle l.p (triangle_of l.verts l.faces j)) no_faces) l.run
+abbrev pub invariant-loop-first : goal.invariant-loop-first
+invariant-loop-first l = (l.first ≤ face_count l.mesh.faces.now) × Carries (Fold l.first (λ j. add_triangle l.p (triangle_of l.mesh.verts.now l.mesh.faces.now j)) no_faces) l.run

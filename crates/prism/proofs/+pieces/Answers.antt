@@ -1,23 +1,21 @@
--- `prism::pieces` meets its contract: a piece's ways out are those of the definition. Assumes nothing.
+-- `prism::pieces` meets its contract: what refuses a half refuses the piece. Assumes nothing.
 use Rattle.std.proofs.Common.{sym, ◌∙◌}
-use Rattle.prism.proofs.WaysOut.{whole, ends, halved}
+use Rattle.std.proofs.lemmas.Bool.{ne_eqb}
+use Rattle.std.proofs.lemmas.Result.{err_from_is_err_and}
+use Rattle.prism.specs.Prism.{join}
+use Rattle.prism.proofs.Step.{step}
 use Rattle.prism.proofs.+pieces.Goals as goal
 
-pub returns-then-n-eq0 : goal.returns-then-n-eq0
-returns-then-n-eq0 t c =
-    let a = c.args in
-    let v = c.in-Halves in
-    let e = ends a.rule a.i a.p a.lo a.hi v.lower_max v.upper_min (sym c.piece_of.ensures ∙ v.is) in
-    simp c.if-n-eq0.true (sym e)
+pub returns-in_err-lower_field-in-Halves : goal.returns-in_err-lower_field-in-Halves
+unfolding join
+returns-in_err-lower_field-in-Halves t c =
+    let p = err_from_is_err_and c.from_residual.result c.from_residual.ensures.1 in
+    rw (p.1, p.2, step)
+    (simp (sym c.piece_of.ensures ∙ c.in-Halves.is, ne_eqb _ _ c.if-n-eq0.false, sym c.pieces.ensures ∙ c.in_err-lower_field-in-Halves.was))
 
-pub returns-in-Whole : goal.returns-in-Whole
-returns-in-Whole t c =
-    let a = c.args in
-    sym (whole a.rule a.i a.p a.lo a.hi a.n c.in-Whole.f (sym c.piece_of.ensures ∙ c.in-Whole.is))
-
-pub returns-else-n-eq0 : goal.returns-else-n-eq0
-returns-else-n-eq0 t c =
-    let a = c.args in
-    let v = c.in-Halves in
-    let e = halved a.rule a.i a.p a.lo a.hi a.n v.lower_max v.upper_min c.if-n-eq0.false (sym c.piece_of.ensures ∙ v.is) in
-    simp (c.join.ensures, c.pieces-in-Halves.ensures, c.pieces.ensures) (sym e)
+pub returns-in_err-upper_field-in-Halves : goal.returns-in_err-upper_field-in-Halves
+unfolding join
+returns-in_err-upper_field-in-Halves t c =
+    let p = err_from_is_err_and c.from_residual-in_err-upper_field-in-Halves.result c.from_residual-in_err-upper_field-in-Halves.ensures.1 in
+    rw (p.1, p.2, step)
+    (simp (sym c.piece_of.ensures ∙ c.in-Halves.is, ne_eqb _ _ c.if-n-eq0.false, sym c.pieces.ensures ∙ c.in_ok-lower_field-in-Halves.was, sym c.pieces-in-Halves.ensures ∙ c.in_err-upper_field-in-Halves.was))

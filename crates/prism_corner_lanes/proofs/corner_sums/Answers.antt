@@ -9,7 +9,7 @@ returns-then-on_edge_line c = c.corner_sums.ensures
 pub returns-then-logarithms : goal.returns-then-logarithms
 returns-then-logarithms c =
     c.sum.ensures
-    ∙ sums_are c.args.lo (rw (← c.offset-lower.ensures, ← c.offset-upper.ensures) c.new-c.ensures) (c.logarithms.ensures c.if-logarithms.true) c.angles.ensures
+    ∙ sums_are c.args.bounds.lo (rw (← c.offset.ensures, ← c.offset-2.ensures) c.new-c.ensures) (c.logarithms.ensures c.if-logarithms.true) c.angles.ensures
 
 pub returns : goal.returns
 returns c = c.corner_sums-2.ensures

@@ -1,6 +1,5 @@
 -- `prism_corner_sums::corner_sums` meets its contract. Assumes nothing.
 use mathlib.Core.Path.{◌≡◌}
-use Prim.Native.Nat.{◌-◌}
 use native.Mathlib.Omega.{arith}
 use Rattle.newtonian.specs.Fold.{fold-none, fold_more}
 use Rattle.prism_corner_sums.specs.CornerSums.{corner_sums}

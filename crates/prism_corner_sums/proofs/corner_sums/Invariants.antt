@@ -7,7 +7,7 @@ use Rattle.prism_corner_sums.specs.CornerSums.{add_corner}
 use Rattle.prism_corner_sums.proofs.corner_sums.Given as goal
 
 abbrev pub invariant-loop-k : goal.invariant-loop-k
-invariant-loop-k l = (l.k ≤ 8) × (l.f ≡ Fold l.k (add_corner l.p l.lo l.hi) zero_field)
+invariant-loop-k l = (l.k ≤ 8) × (l.f ≡ Fold l.k (add_corner l.p l.bounds.lo l.bounds.hi) zero_field)
 
 abbrev pub decreases-loop-k : goal.decreases-loop-k
 decreases-loop-k l = 8 - l.k

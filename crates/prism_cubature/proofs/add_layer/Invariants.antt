@@ -6,4 +6,4 @@ use Rattle.prism_cubature.specs.Cubature.{line}
 use Rattle.prism_cubature.proofs.add_layer.Given as goal
 
 abbrev pub invariant-loop-j : goal.invariant-loop-j
-invariant-loop-j l = (l.j ≤ l.rule_y.count) × (l.sums ≡ Fold l.j (line l.p l.lo l.hi l.rule_y.count l.rule_z.count l.w l.x) l.initial.sums)
+invariant-loop-j l = (l.j ≤ l.rule_y.count) × (l.sums ≡ Fold l.j (line l.p l.bounds.lo l.bounds.hi l.rule_y.count l.rule_z.count l.w l.x) l.initial.sums)

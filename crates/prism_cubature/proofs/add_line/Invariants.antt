@@ -6,4 +6,4 @@ use Rattle.prism_cubature.specs.Cubature.{point}
 use Rattle.prism_cubature.proofs.add_line.Given as goal
 
 abbrev pub invariant-loop-k : goal.invariant-loop-k
-invariant-loop-k l = (l.k ≤ l.rule.count) × (l.sums ≡ Fold l.k (point l.p l.lo l.hi l.rule.count l.w l.x l.y) l.initial.sums)
+invariant-loop-k l = (l.k ≤ l.rule.count) × (l.sums ≡ Fold l.k (point l.p l.bounds.lo l.bounds.hi l.rule.count l.w l.x l.y) l.initial.sums)

@@ -10,7 +10,7 @@ use Rattle.profile_fields.proofs.profile_fields.Given as goal
 abbrev pub invariant-loop-first : goal.invariant-loop-first
 invariant-loop-first l =
     (l.first ≤ l.total) × (l.total ≡ length l.stations / 3) × (length l.fields ≡ length l.initial.fields)
-    × Written (λ i. polyhedron_from i (vertex l.stations i) l.c l.r l.verts l.faces) l.first l.initial.fields l.fields
+    × Written (λ i. polyhedron_from i (vertex l.stations i) l.center.centroid l.center.radius l.mesh.verts.now l.mesh.faces.now) l.first l.initial.fields l.fields
 
 abbrev pub decreases-loop-first : goal.decreases-loop-first
 decreases-loop-first l = l.total - l.first

@@ -1,10 +1,10 @@
 use Rattle.recheck_line.specs.Line.{answer_line}
 use Rattle.recheck_line.proofs.verdict_line.Goals as goal
 
-pub returns-in-Accepted : goal.returns-in-Accepted
+pub returns-in-Ok : goal.returns-in-Ok
 unfolding answer_line
-returns-in-Accepted c = rw c.in-Accepted.is c.put_line.ensures
+returns-in-Ok c = rw c.in-Ok.is c.put_line.ensures
 
-pub returns-in-Refused : goal.returns-in-Refused
+pub returns-in-Err : goal.returns-in-Err
 unfolding answer_line
-returns-in-Refused c = rw (c.in-Refused.is, ← c.number.ensures, ← c.place.ensures) c.put_line-in-Refused.ensures
+returns-in-Err c = rw (c.in-Err.is, ← c.number.ensures, ← c.place.ensures) c.put_line-in-Err.ensures

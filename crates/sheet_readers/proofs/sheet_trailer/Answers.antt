@@ -1,14 +1,14 @@
 -- `sheet_readers::sheet_trailer` meets its contract. Assumes nothing.
-use mathlib.Core.Path.{sym, ◌∙◌}
-use Rattle.sheet_readers.proofs.Opening.{opened}
-use Rattle.sheet_readers.proofs.Handed.{no_trailer, trailer-given}
+use Rattle.std.proofs.lemmas.Result.{err_from_is_err_and}
+use Rattle.sheet_readers.proofs.Handed.{no_trailer, trailer_given}
 use Rattle.sheet_readers.proofs.sheet_trailer.Goals as goal
 
-pub returns-in-Refused : goal.returns-in-Refused
-returns-in-Refused c = no_trailer c.args.sheet.now _ (sym c.opening_cause-opening.ensures ∙ c.in-Refused.is)
-
-pub trailer_fields-requires : goal.trailer_fields-requires
-trailer_fields-requires c = (opened c.args.sheet.now (sym c.opening_cause-opening.ensures ∙ c.in_default.is)).trailer
+pub returns-in_err-open : goal.returns-in_err-open
+returns-in_err-open c =
+    let p = err_from_is_err_and c.from_residual.result c.from_residual.ensures.1 in
+    rw (p.1, p.2) (no_trailer c.args.sheet.now _ c.in_err-open.ensures)
 
 pub returns : goal.returns
-returns c = trailer-given c.args.sheet.now (sym c.opening_cause-opening.ensures ∙ c.in_default.is) _ c.trailer_fields.ensures
+returns c =
+    let opened = c.in_ok-open.ensures in
+    trailer_given c.args.sheet.now opened.1 _ (rw (← opened.0) c.in_ok-open.field-0.read)

@@ -6,7 +6,7 @@ use Prim.Native.Nat.{ℕ}
 use lib.Ieee.{Float}
 use Rattle.polyhedron_centroid.specs.Centroid.{centroid, radius}
 use Rattle.polyhedron.specs.Polyhedron.{polyhedron_at}
-use Rattle.sheet_rows.specs.declared.Center.{Center}
+use Rattle.polyhedron_centroid.specs.declared.Center.{Center}
 use Rattle.sheet_rows.specs.Kinds.{is_mesh}
 use Rattle.sheet_rows.specs.BodyWithCenter.{center_of}
 use Rattle.sheet_rows.specs.Row.{field_at}
@@ -21,7 +21,7 @@ pub returns-then-is_mesh : goal.returns-then-is_mesh
 unfolding field_at polyhedron_at
 returns-then-is_mesh c =
     let mesh : is_mesh c.args.kind ≡ true = sym c.is_mesh.ensures ∙ c.if-is_mesh.true in
-    let k = mesh-center c.args.kind c.args.c c.args.verts.now c.args.faces.now mesh c.requires.0.center in
+    let k = mesh-center c.args.kind c.args.c c.args.verts.now c.args.faces.now mesh c.requires.center in
     record { at = λ j l. c.fields_of.ensures.at j l ∙ simp (mesh, k.0, k.1) }
 
 pub returns : goal.returns
@@ -30,12 +30,12 @@ returns c =
     let prism : is_mesh c.args.kind ≡ false = sym c.is_mesh.ensures ∙ c.if-is_mesh.false in
     record { at = λ j l. c.prism_fields.ensures j l ∙ simp prism }
 
-pub fields_of-requires : goal.fields_of-requires
-fields_of-requires c =
+pub invariant_of-fields_of : goal.invariant_of-fields_of
+invariant_of-fields_of c =
     let mesh : is_mesh c.args.kind ≡ true = sym c.is_mesh.ensures ∙ c.if-is_mesh.true in
-    (c.requires.0.body mesh, c.requires.1, c.requires.2)
+    record { body = c.requires.body mesh }
 
 pub prism_fields-requires : goal.prism_fields-requires
 prism_fields-requires c =
     let prism : is_mesh c.args.kind ≡ false = sym c.is_mesh.ensures ∙ c.if-is_mesh.false in
-    (c.requires.0.corners prism, c.requires.1, c.requires.2)
+    c.requires.corners prism

@@ -1,3 +1,4 @@
+-- `test_limits::stations_sheet` meets its contract: an array of zeros has its length. Assumes nothing.
 use Rattle.std.proofs.Common.{◌≡◌, ℕ, length, sym}
 use lib.ListN.{replicate, length-replicate}
 use Rattle.test_limits.proofs.stations_sheet.Goals as goal

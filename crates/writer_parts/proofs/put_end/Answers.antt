@@ -8,10 +8,10 @@ use Rattle.writer_parts.specs.PartsPut.{trailer_parts}
 use Rattle.writer_parts.proofs.Pieces.{zeroed, ended}
 use Rattle.writer_parts.proofs.put_end.Goals as goal
 
-pub returns-in-Refused : goal.returns-in-Refused
-returns-in-Refused c =
+pub returns-in-Err : goal.returns-in-Err
+returns-in-Err c =
     let trailer : List Part = let a = c.args in let s = a.source.now in trailer_parts s.kind a.v a.f a.n s.magnetisation s.ambient a.volume (length a.out.now - trailer_length) in
-    zeroed trailer c.args.out.now c.in-Refused.is c.put_zeros.ensures
+    zeroed trailer c.args.out.now c.in-Err.is c.put_zeros.ensures
 
 pub returns : goal.returns
 returns c =

@@ -2,8 +2,8 @@
 use borrow.Author.Tests.{le-leb, lt-leb}
 use Rattle.checker_rooms.proofs.rooms.fits.Goals as goal
 
-pub returns-then-n-vertices : goal.returns-then-n-vertices
-returns-then-n-vertices c = simp (← c.vertices.ensures, lt-leb _ _ c.if-n-vertices.true)
+pub returns-then-n-sheet : goal.returns-then-n-sheet
+returns-then-n-sheet c = simp (← c.args.sheet.read.vertices, lt-leb _ _ c.if-n-sheet.true)
 
 pub returns : goal.returns
-returns c = simp (← c.vertices.ensures, ← c.faces.ensures, le-leb _ _ c.if-n-vertices.false)
+returns c = simp (← c.args.sheet.read.vertices, ← c.args.sheet.read.faces, le-leb _ _ c.if-n-sheet.false)

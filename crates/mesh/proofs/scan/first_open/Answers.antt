@@ -5,7 +5,7 @@ use Prim.Native.Nat.{ℕ}
 use native.Mathlib.Omega.{arith}
 use lib.ListN.{length}
 use Rattle.refusals.specs.declared.Refusal.TheVariants.{Open}
-use Rattle.refusals.specs.declared.Cause.TheVariants.{Refused}
+use Rattle.std.specs.Prelude.{Err}
 use Rattle.refusals.specs.Causes.{unless, first_of}
 use Rattle.mesh_orders.specs.Order.{Uses}
 use Rattle.mesh_orders.specs.OrderLaws.{order-length, order-uses}
@@ -41,7 +41,7 @@ returns-then-not-has_reverse c =
     let size : length c.args.order.now ≡ length c.args.faces.now = ap length c.requires.1 ∙ order-length c.args.faces.now in
     let f = c.args.faces.now in
     let o = c.args.order.now in
-    ap₂ (λ (a b : ℕ). Refused (Open a b)) c.start.ensures c.end.ensures
+    ap₂ (λ (a b : ℕ). Err (Open a b)) c.start.ensures c.end.ensures
     ∙ scan_stop (length f) (reverse_occurs f o) (open_at f o) c.loop-i.i (omega (arith, size)) c.loop-i.invariant
     (sym c.has_reverse.ensures ∙ c.if-not-has_reverse.true)
     ∙ ap (λ (l : List ℕ). first_of (length f) (λ i. unless (reverse_occurs f l i) (open_at f l i))) c.requires.1

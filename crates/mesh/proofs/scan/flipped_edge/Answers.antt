@@ -7,7 +7,7 @@ use native.Mathlib.Omega.{arith}
 use lib.ListN.{length, get_or}
 use borrow.Author.Tests.{lt-leb}
 use Rattle.refusals.specs.declared.Refusal.TheVariants.{Flipped}
-use Rattle.refusals.specs.declared.Cause.TheVariants.{Refused}
+use Rattle.std.specs.Prelude.{Err}
 use Rattle.lists.proofs.Numbers.{same?}
 use Rattle.mesh_orders.specs.Edges.{from, to, edge}
 use Rattle.mesh_orders.specs.Order.{order_list, Uses}
@@ -56,7 +56,7 @@ returns-then-edge c =
     let here : c.loop-i.i ≡ i + 1 = omega arith in
     let same : get_or c.args.order.now i 0 ≡ get_or o i 0 = ap (λ (l : List ℕ). get_or l i 0) c.requires.1 in
     let next : get_or c.args.order.now c.loop-i.i 0 ≡ get_or o (i + 1) 0 = ap₂ (λ (l : List ℕ) (n : ℕ). get_or l n 0) c.requires.1 here in
-    ap₂ (λ (a b : ℕ). Refused (Flipped a b)) (c.start.ensures ∙ ap (from f) same) (c.end.ensures ∙ ap (to f) same)
+    ap₂ (λ (a b : ℕ). Err (Flipped a b)) (c.start.ensures ∙ ap (from f) same) (c.end.ensures ∙ ap (to f) same)
     ∙ scan_stop (length f) (occurs_once f o) (flipped_at f o) i
     (omega (arith, size)) (differ_none f c.requires.0 i i (omega (arith, size)) (inl (omega arith)) (differ f c.args.order.now c.loop-i.i c.requires.1 c.loop-i.invariant))
     (lt-leb _ 1 (same_twice f c.requires.0 i (omega (arith, size))

@@ -12,17 +12,17 @@ front : (n m : ℕ) → n ≤ m → length (take n (replicate {A = ℕ} m 0)) �
 front n m h = length-take-le n (replicate m 0) (omega (arith, length-replicate {A = ℕ} m 0))
 
 pub whole_as_front-check_edges : goal.whole_as_front-check_edges
-whole_as_front-check_edges g c = (c.requires.3, omega (arith, c.requires.5))
+whole_as_front-check_edges g c = (c.requires.2, omega (arith, c.requires.4))
 
 pub whole_as_front-check_edges-2 : goal.whole_as_front-check_edges-2
-whole_as_front-check_edges-2 g c = (c.requires.4, omega (arith, c.requires.6))
+whole_as_front-check_edges-2 g c = (c.requires.3, omega (arith, c.requires.5))
 
 pub slice_bounds-check_edges-end : goal.slice_bounds-check_edges-end
-slice_bounds-check_edges-end g c = sym (front (vertex_count c.args.verts.now) g.row.V c.requires.3)
+slice_bounds-check_edges-end g c = sym (front (vertex_count c.args.mesh.verts.now) g.row.V c.requires.2)
 
 pub slice_bounds-check_edges-end-2 : goal.slice_bounds-check_edges-end-2
-slice_bounds-check_edges-end-2 g c = sym (front (length c.args.faces.now) g.row.U c.requires.4)
+slice_bounds-check_edges-end-2 g c = sym (front (length c.args.mesh.faces.now) g.row.U c.requires.3)
 
 pub check_edges-requires : goal.check_edges-requires
 check_edges-requires g c =
-    (c.requires.0, front (vertex_count c.args.verts.now) g.row.V c.requires.3, front (length c.args.faces.now) g.row.U c.requires.4, c.requires.1, c.requires.2)
+    (front (vertex_count c.args.mesh.verts.now) g.row.V c.requires.2, front (length c.args.mesh.faces.now) g.row.U c.requires.3, c.requires.0, c.requires.1)

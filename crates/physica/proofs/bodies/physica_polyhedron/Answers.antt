@@ -4,6 +4,6 @@ use Rattle.physica.proofs.bodies.physica_polyhedron.Goals as goal
 pub returns : goal.returns
 returns c =
     record {
-      gives_values = rw (← c.vector_of.ensures, ← c.polyhedron-field.ensures.result_value) c.give_field.ensures;
-      work = rw (← c.vector_of.ensures) c.polyhedron-field.ensures.work_after;
+      gives_values = rw (← c.from.ensures, ← c.polyhedron-field.ensures.result_value) c.give_values.ensures;
+      work = rw (← c.from.ensures) c.polyhedron-field.ensures.work_after;
     }

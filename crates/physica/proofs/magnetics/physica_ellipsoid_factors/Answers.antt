@@ -2,4 +2,4 @@
 use Rattle.physica.proofs.magnetics.physica_ellipsoid_factors.Goals as goal
 
 pub returns : goal.returns
-returns c = rw (← c.ellipsoid_factors.ensures) c.give_vector.ensures
+returns c = rw (← c.ellipsoid_factors.ensures) c.give.ensures

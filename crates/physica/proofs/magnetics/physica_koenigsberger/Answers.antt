@@ -2,4 +2,4 @@
 use Rattle.physica.proofs.magnetics.physica_koenigsberger.Goals as goal
 
 pub returns : goal.returns
-returns c = rw (← c.vector_of.ensures, ← c.vector_of-2.ensures, ← c.koenigsberger.ensures) c.give_number.ensures
+returns c = rw (← c.from.ensures, ← c.from-2.ensures, ← c.koenigsberger.ensures) c.give.ensures

@@ -2,4 +2,4 @@
 use Rattle.physica.proofs.magnetics.physica_total_field.Goals as goal
 
 pub returns : goal.returns
-returns c = rw (← c.vector_of.ensures, ← c.vector_of-2.ensures, ← c.total_field.ensures) c.give_number.ensures
+returns c = rw (← c.from.ensures, ← c.from-2.ensures, ← c.total_field.ensures) c.give.ensures

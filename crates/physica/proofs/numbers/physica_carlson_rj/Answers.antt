@@ -2,4 +2,4 @@
 use Rattle.physica.proofs.numbers.physica_carlson_rj.Goals as goal
 
 pub returns : goal.returns
-returns c = rw (← c.carlson_rj.ensures) c.give_integral.ensures
+returns c = rw (← c.carlson_rj.ensures) c.give.ensures

@@ -2,4 +2,4 @@
 use Rattle.physica.proofs.numbers.physica_cel.Goals as goal
 
 pub returns : goal.returns
-returns c = rw (← c.cel.ensures) c.give_integral.ensures
+returns c = rw (← c.cel.ensures) c.give.ensures

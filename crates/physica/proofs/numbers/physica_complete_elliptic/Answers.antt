@@ -2,4 +2,4 @@
 use Rattle.physica.proofs.numbers.physica_complete_elliptic.Goals as goal
 
 pub returns : goal.returns
-returns c = rw (← c.complete_elliptic.ensures) c.give_complete.ensures
+returns c = rw (← c.complete_elliptic.ensures) c.give.ensures

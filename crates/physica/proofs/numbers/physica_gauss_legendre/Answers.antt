@@ -4,6 +4,6 @@ use Rattle.physica.proofs.numbers.physica_gauss_legendre.Goals as goal
 pub returns : goal.returns
 returns c =
     record {
-      nodes = rw (← c.gauss_legendre.ensures.result_value) c.give_rule.ensures.nodes;
-      weights = rw (← c.gauss_legendre.ensures.result_value) c.give_rule.ensures.weights;
+      nodes = rw (← c.gauss_legendre.ensures) c.give_rule.ensures.nodes;
+      weights = rw (← c.gauss_legendre.ensures) c.give_rule.ensures.weights;
     }

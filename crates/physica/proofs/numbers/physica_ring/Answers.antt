@@ -2,4 +2,4 @@
 use Rattle.physica.proofs.numbers.physica_ring.Goals as goal
 
 pub returns : goal.returns
-returns c = rw (← c.ring.ensures) c.give_ring.ensures
+returns c = rw (← c.ring.ensures) c.give.ensures

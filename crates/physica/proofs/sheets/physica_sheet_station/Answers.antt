@@ -8,4 +8,4 @@ pub returns-then-station-lt-STATION_LENGTH : goal.returns-then-station-lt-STATIO
 returns-then-station-lt-STATION_LENGTH c = record { count = rw (← c.sheet_station-station.ensures, lt-leb station_length _ c.if-station-lt-STATION_LENGTH.true) (refl); out = rw (← c.sheet_station-station.ensures, lt-leb station_length _ c.if-station-lt-STATION_LENGTH.true) (refl) }
 
 pub returns : goal.returns
-returns c = record { count = rw (← c.sheet_station-station.ensures, le-leb station_length _ c.if-station-lt-STATION_LENGTH.false) (refl); out = rw (← c.sheet_station-station.ensures, le-leb station_length _ c.if-station-lt-STATION_LENGTH.false) (c.station_numbers-numbers.ensures) }
+returns c = record { count = rw (← c.sheet_station-station.ensures, le-leb station_length _ c.if-station-lt-STATION_LENGTH.false) (refl); out = rw (← c.sheet_station-station.ensures, le-leb station_length _ c.if-station-lt-STATION_LENGTH.false) (c.numbers_of.ensures) }

@@ -3,4 +3,4 @@ use Rattle.physica.proofs.InNumbers.{writes_lent}
 use Rattle.physica.proofs.sheets.physica_write_sheet.Goals as goal
 
 pub returns : goal.returns
-returns c = rw (← c.vector_of-m.ensures, ← c.vector_of-b.ensures) (writes_lent c.write_sheet.ensures c.give_written.ensures)
+returns c = rw (← c.from-m.ensures, ← c.from-b.ensures) (writes_lent c.write_sheet.ensures c.give_values.ensures)

@@ -5,14 +5,14 @@ use Rattle.polyhedron_edge_face_sums.proofs.Running.add_triangles.Goals as goal
 
 pub loop-k-init : goal.loop-k-init
 unfolding Fold
-loop-k-init c = let e : c.args.first - c.args.first ≡ 0 = omega arith in rw e (λ s h. h)
+loop-k-init c = let e : c.args.range.first - c.args.range.first ≡ 0 = omega arith in rw e (λ s h. h)
 
 pub loop-k-preserved : goal.loop-k-preserved
 loop-k-preserved c =
     let l = c.loop-k in
-    let next : l.k + 1 - c.args.first ≡ (l.k - c.args.first) + 1 = omega arith in
-    let face : c.args.first + (l.k - c.args.first) ≡ l.k = omega arith in
+    let next : l.k + 1 - c.args.range.first ≡ (l.k - c.args.range.first) + 1 = omega arith in
+    let face : c.args.range.first + (l.k - c.args.range.first) ≡ l.k = omega arith in
     λ s h. rw (next, fold_more, face) (simp c.triangle_of.ensures at (c.add_triangle.ensures _ (l.invariant s h)))
 
 pub returns : goal.returns
-returns c = let e : c.loop-k.k - c.args.first ≡ c.args.n = omega arith in rw e at c.loop-k.invariant
+returns c = let e : c.loop-k.k - c.args.range.first ≡ c.args.range.n = omega arith in rw e at c.loop-k.invariant

@@ -4,4 +4,4 @@ use Rattle.polyhedron_edge_face_sums.specs.Carried.{Adds}
 use Rattle.polyhedron_edge_face_sums.proofs.Running.add_triangles.Given as goal
 
 abbrev pub invariant-loop-k : goal.invariant-loop-k
-invariant-loop-k l = Adds l.p l.verts l.faces l.first (l.k - l.first) l.initial.self l.self
+invariant-loop-k l = Adds l.p l.range.mesh.verts.now l.range.mesh.faces.now l.range.first (l.k - l.range.first) l.initial.self l.self

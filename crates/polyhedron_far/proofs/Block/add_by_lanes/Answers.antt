@@ -17,7 +17,7 @@ pub loop-k-preserved : goal.loop-k-preserved
 loop-k-preserved c =
     let l = c.loop-k in
     let h : l.k < 8 = c.loop-k-test.true in
-    elim c.if-not-self-k.branch [ then-not-self-k w ↦ rw w.sums-is (one-station l.k _ l.invariant h (λ n. simp (w.add.ensures, w.field_numbers.ensures, w.at.ensures))) | else-not-self-k w ↦ rw w.sums-is (one-station l.k _ l.invariant h (λ n. absurd (true≢false (sym w.if-not-self-k.false ∙ n)))) ]
+    elim c.if-not-self-k.branch [ then-not-self-k w ↦ rw w.sums-is (one-station l.k _ l.invariant h (λ n. simp (w.add.ensures, w.into.ensures, w.at.ensures))) | else-not-self-k w ↦ rw w.sums-is (one-station l.k _ l.invariant h (λ n. absurd (true≢false (sym w.if-not-self-k.false ∙ n)))) ]
 
 pub returns : goal.returns
 returns c = same_sums (λ i l s. ap (λ (q : Newtonian). add_terms s (field_numbers q)) (c.of-fields.ensures.at i l)) (all-stations c.loop-k.invariant c.loop-k-test.false)

@@ -5,6 +5,6 @@ use Rattle.polyhedron_far.proofs.Block.add_far_face.Goals as goal
 pub returns : goal.returns
 returns c =
     let a = c.args in
-    face_added a.self.now.places a.apex a.verts.now a.faces.now a.k
+    face_added a.self.now.places a.apex a.mesh.verts.now a.mesh.faces.now a.k
     c.corner-b.ensures c.corner-c.ensures c.corner-d.ensures c.over_face-s.ensures
     c.fill.ensures c.add_points.ensures

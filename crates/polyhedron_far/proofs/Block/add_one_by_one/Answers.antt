@@ -14,7 +14,7 @@ pub loop-i-preserved : goal.loop-i-preserved
 loop-i-preserved c =
     let l = c.loop-i in
     let h : l.i < 8 = c.loop-i-test.true in
-    elim c.if-not-self-i.branch [ then-not-self-i w ↦ rw w.sums-is (one-station l.i _ l.invariant h (λ n. simp (w.add.ensures, w.field_numbers.ensures, w.field-f.ensures))) | else-not-self-i w ↦ rw w.sums-is (one-station l.i _ l.invariant h (λ n. absurd (true≢false (sym w.if-not-self-i.false ∙ n)))) ]
+    elim c.if-not-self-i.branch [ then-not-self-i w ↦ rw w.sums-is (one-station l.i _ l.invariant h (λ n. simp (w.add.ensures, w.into.ensures, w.field-f.ensures))) | else-not-self-i w ↦ rw w.sums-is (one-station l.i _ l.invariant h (λ n. absurd (true≢false (sym w.if-not-self-i.false ∙ n)))) ]
 
 pub returns : goal.returns
 returns c = all-stations c.loop-i.invariant c.loop-i-test.false

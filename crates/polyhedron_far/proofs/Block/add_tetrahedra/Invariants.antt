@@ -8,4 +8,4 @@ use Rattle.polyhedron_far.proofs.Block.add_tetrahedra.Given as goal
 
 abbrev pub invariant-loop-k : goal.invariant-loop-k
 invariant-loop-k l =
-    (l.k ≤ l.n) × FarSums l.self.near (λ (i : ℕ). Fold l.k (λ (j : ℕ). add_tetrahedron (place_at l.self.places i) l.apex l.verts l.faces (l.first + j))) l.initial.sums l.sums
+    (l.k ≤ l.range.n) × FarSums l.self.near (λ (i : ℕ). Fold l.k (λ (j : ℕ). add_tetrahedron (place_at l.self.places i) l.apex l.range.mesh.verts.now l.range.mesh.faces.now (l.range.first + j))) l.initial.sums l.sums

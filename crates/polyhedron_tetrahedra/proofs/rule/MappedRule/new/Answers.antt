@@ -11,7 +11,7 @@ pub loop-i-preserved : goal.loop-i-preserved
 loop-i-preserved c =
     let l = c.loop-i in
     let h : l.i < points = c.loop-i-test.true in
-    let e = c.gauss_legendre-rule.ensures.value in
+    let e = c.of_order-rule.ensures in
     record {
       node_count = length-set _ _ _ ∙ l.invariant.node_count;
       weight_count = length-set _ _ _ ∙ l.invariant.weight_count;

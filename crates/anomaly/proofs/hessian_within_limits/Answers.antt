@@ -1,7 +1,0 @@
--- `anomaly::hessian_within_limits` meets its contract. Assumes nothing.
-use Rattle.anomaly.specs.Limits.{hessian_within_limits}
-use Rattle.anomaly.proofs.hessian_within_limits.Goals as goal
-
-pub returns : goal.returns
-unfolding hessian_within_limits
-returns c = simp (c.vector_within_limits-3.ensures, c.vector_within_limits-2.ensures, c.vector_within_limits.ensures)

@@ -1,2 +1,0 @@
--- Laws of the states of a block.
-pub mod Elements

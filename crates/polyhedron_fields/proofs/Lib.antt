@@ -1,2 +1,0 @@
--- Laws of fields in a list, for the crates above.
-pub mod Placing

@@ -1,2 +1,0 @@
--- Start values for the root.
-pub mod Starts
