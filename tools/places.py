@@ -80,7 +80,7 @@ def twins():
 def loops():
     """3: `while` loops that count, and `for` loops over numbers."""
     for path, text in files():
-        for m in re.finditer(r"(?m)^\s*(while [^\n]*|for \w+ in [^\n]*\.\.[^\n]*) \{$", text):
+        for m in re.finditer(r"(?m)^\s*(while [^\n]*|for \w+ in [^\n]*(?<!\[)\.\.[^\n]*) \{$", text):
             yield path, text.count("\n", 0, m.start() + 1) + 1, m.group(1)
 
 

@@ -152,7 +152,7 @@ pub fn carlson_rc(x: f64, y: f64) -> Result<f64, Refusal>
     Err(Refusal::OutsideDomain)
 }
 
-// R_C's value. It is not refused where ln, atan and atan2 call this.
+// R_C's value. It is not refused where ln, atan and atan2 call this. Its proof opens the library's `of_bits`, which an attribute cannot name.
 fn rc_value(x: f64, y: f64) -> f64
     ensures { result ≡ rc_value x y }
 {

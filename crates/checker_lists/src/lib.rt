@@ -1,5 +1,5 @@
-// The checker's first stage after the opening: reads a sheet's lists, and tries the causes 3, 4, 17 and 18. The room for them is lent; what 4 lets through of them is a
-// `SheetBody`.
+// The checker's first stage after the opening: reads a sheet's lists, and tries the causes 3, 4, 17 and 18. The room for them is lent, and its fact joins three lists to the
+// sheet: a struct of the four would be taken apart when the lists are read, since they are written before and only read after. What 18 lets through is a `SheetBody`.
 #![tactic(auto)]
 
 pub mod body;

@@ -1,5 +1,5 @@
 -- The mates, a face at a time: the edge uses i, i + 1 and i + 2. Assumes nothing.
-use mathlib.Core.Path.{◌≡◌, refl, sym, ap, subst, ◌∙◌}
+use mathlib.Core.Path.{◌≡◌, refl, ap, subst, ◌∙◌}
 use mathlib.Core.Bool.{Bool, true, false, ◌&&◌}
 use mathlib.Core.List.{List}
 use Prim.Native.Nat.{ℕ, ◌+◌, ◌*◌, ◌/◌, ◌%◌, ◌<◌}
@@ -11,45 +11,31 @@ use Rattle.std.specs.Prelude.{Ok, Err}
 use Rattle.refusals.specs.Causes.{unless, first_of}
 use Rattle.lists.proofs.Numbers.{both}
 use Rattle.mesh_orders.specs.Edges.{edge_number, edge, reverse}
-use Rattle.sheet_layout.specs.LittleEndian.{number, unpack}
-use Rattle.sheet_layout.proofs.Lists.{unpack-at}
 use Rattle.mesh.proofs.Scans.{scan_more, scan_stop}
 use Rattle.sheet.specs.Checker.{is_reverse, wrong_mate}
 use Rattle.checker_order.specs.Reverses.{reverses}
-
-pub number_at : (b : List ℕ) (at n i : ℕ) → i < n → get_or (unpack 4 n b at) i 0 ≡ number 4 b (at + 4 * i)
-number_at b at n i h = let e : at + i * 4 ≡ at + 4 * i = omega arith in unpack-at 4 n b at i h ∙ ap (number 4 b) e
 
 -- ---- the test of one mate: w, of a use whose reverse is (a, b)
 
 abbrev pub Tested : List ℕ → ℕ → ℕ → ℕ → Bool
 Tested f w a b = ltb w (length f) && eqb (edge f w) (edge_number a b)
 
-module _ (b : List ℕ) (at : ℕ) (f : List ℕ) where
-  abbrev pub mates_standing : List ℕ
-  mates_standing = unpack 4 (length f) b at
+module _ (f m : List ℕ) where
+  tested : (u w x y : ℕ) → w ≡ get_or m u 0 → reverse f u ≡ edge_number x y → Tested f w x y ≡ is_reverse f m u
+  tested u w x y e q = rw (e, q)
 
-  tested : (u w x y : ℕ) → u < length f → w ≡ number 4 b (at + 4 * u) → reverse f u ≡ edge_number x y → Tested f w x y ≡ is_reverse f mates_standing u
-  tested u w x y h e q = rw (number_at b at (length f) u h ∙ sym e, q)
-
-  module _ (i : ℕ) (t : i % 3 ≡ 0) (h : i + 2 < length f) where
-    pub first : (w : ℕ) → w ≡ number 4 b (at + 4 * i) → Tested f w (get_or f (i + 1) 0) (get_or f i 0) ≡ is_reverse f mates_standing i
+  module _ (i : ℕ) (t : i % 3 ≡ 0) where
+    pub first : (w : ℕ) → w ≡ get_or m i 0 → Tested f w (get_or f (i + 1) 0) (get_or f i 0) ≡ is_reverse f m i
     unfolding reverse
-    first w e = let n : i / 3 * 3 + (i + 1) % 3 ≡ i + 1 = omega arith in tested i w _ _ (omega arith) e (rw n)
+    first w e = let n : i / 3 * 3 + (i + 1) % 3 ≡ i + 1 = omega arith in tested i w _ _ e (rw n)
 
-    pub second : (w : ℕ) → w ≡ number 4 b (at + 4 * i + 4) → Tested f w (get_or f (i + 2) 0) (get_or f (i + 1) 0) ≡ is_reverse f mates_standing (i + 1)
+    pub second : (w : ℕ) → w ≡ get_or m (i + 1) 0 → Tested f w (get_or f (i + 2) 0) (get_or f (i + 1) 0) ≡ is_reverse f m (i + 1)
     unfolding reverse
-    second w e =
-        let n : (i + 1) / 3 * 3 + (i + 1 + 1) % 3 ≡ i + 2 = omega arith in
-        let p : at + 4 * i + 4 ≡ at + 4 * (i + 1) = omega arith in
-        tested (i + 1) w _ _ (omega arith) (e ∙ ap (number 4 b) p) (rw n)
+    second w e = let n : (i + 1) / 3 * 3 + (i + 1 + 1) % 3 ≡ i + 2 = omega arith in tested (i + 1) w _ _ e (rw n)
 
-    pub third : (w : ℕ) → w ≡ number 4 b (at + 4 * i + 8) → Tested f w (get_or f i 0) (get_or f (i + 2) 0) ≡ is_reverse f mates_standing (i + 2)
+    pub third : (w : ℕ) → w ≡ get_or m (i + 2) 0 → Tested f w (get_or f i 0) (get_or f (i + 2) 0) ≡ is_reverse f m (i + 2)
     unfolding reverse
-    third w e =
-        let n : (i + 2) / 3 * 3 + (i + 2 + 1) % 3 ≡ i = omega arith in
-        let p : at + 4 * i + 8 ≡ at + 4 * (i + 2) = omega arith in
-        tested (i + 2) w _ _ (omega arith) (e ∙ ap (number 4 b) p) (rw n)
+    third w e = let n : (i + 2) / 3 * 3 + (i + 2 + 1) % 3 ≡ i = omega arith in tested (i + 2) w _ _ e (rw n)
 
 -- ---- the three of a face
 

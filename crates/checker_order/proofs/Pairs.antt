@@ -1,5 +1,5 @@
 -- Paired mates: what the code finds of one use and of a face; they are reverses, and give the edges. Assumes nothing.
-use mathlib.Core.Path.{◌≡◌, sym, ap, ap₂, subst, ◌∙◌}
+use mathlib.Core.Path.{◌≡◌, refl, sym, ap, ap₂, subst, ◌∙◌}
 use mathlib.Core.Bool.{true}
 use mathlib.Core.List.{List}
 use Prim.Native.Nat.{ℕ, ◌+◌, ◌*◌, ◌/◌, ◌%◌, ◌<◌}
@@ -8,43 +8,34 @@ use lib.ListN.{length, get_or}
 use borrow.Author.Count.{below_more}
 use borrow.Author.Tests.{eq-eqb, lt-ltb}
 use Rattle.refusals.specs.declared.Refusal.TheVariants.{WrongMate}
-use Rattle.std.specs.Prelude.{Ok}
+use Rattle.std.specs.Prelude.{Ok, Err}
+use Rattle.refusals.specs.Causes.{Cause, or_else}
 use Rattle.mesh_orders.specs.Edges.{from, to, edge_number, edge, reverse}
-use Rattle.sheet_layout.specs.LittleEndian.{number}
 use Rattle.mesh.specs.CauseLaws.{each_none}
 use Rattle.sheet.specs.Checker.{is_reverse, wrong_mate}
 use Rattle.checker_order.specs.Paired.{PairedAt, PairedFace, Paired}
-use Rattle.checker_order.proofs.Mates.{mates_standing, number_at}
 
 -- ---- what is found of a use u: its mate w is a use that leaves x and has the mate u
 
-abbrev pub Found : List ℕ → ℕ → List ℕ → ℕ → ℕ → ℕ → Type 0
-Found b at f u w x = (w < length f) × (get_or f w 0 ≡ x) × (number 4 b (at + 4 * w) ≡ u)
+abbrev pub Found : List ℕ → List ℕ → ℕ → ℕ → ℕ → Type 0
+Found f m u w x = (w < length f) × (from f w ≡ x) × (get_or m w 0 ≡ u)
 
-module _ (b : List ℕ) (at : ℕ) (f : List ℕ) where
-  pub mate-at : (u w : ℕ) → u < length f → w ≡ number 4 b (at + 4 * u) → get_or (mates_standing b at f) u 0 ≡ w
-  mate-at u w h e = number_at b at (length f) u h ∙ sym e
-
-  paired_at : (u w x : ℕ) → u < length f → w ≡ number 4 b (at + 4 * u) → x ≡ to f u → Found b at f u w x → PairedAt f (mates_standing b at f) u
-  paired_at u w x h e q k =
-      let p = mate-at u w h e in
-      record { within = omega (arith, p, k.0); meets = ap (from f) p ∙ k.1 ∙ q; back = ap (λ (z : ℕ). get_or (mates_standing b at f) z 0) p ∙ number_at b at (length f) w k.0 ∙ k.2 }
+module _ (f m : List ℕ) where
+  paired_at : (u w x : ℕ) → w ≡ get_or m u 0 → x ≡ to f u → Found f m u w x → PairedAt f m u
+  paired_at u w x e q k = record { within = omega (arith, e, k.0); meets = ap (from f) (sym e) ∙ k.1 ∙ q; back = ap (λ (z : ℕ). get_or m z 0) (sym e) ∙ k.2 }
 
   -- of the three uses of a face
-  module _ (i : ℕ) (t : i % 3 ≡ 0) (h : i + 2 < length f) where
-    pub paired_face : (w w' w'' : ℕ) → w ≡ number 4 b (at + 4 * i) → w' ≡ number 4 b (at + 4 * i + 4) → w'' ≡ number 4 b (at + 4 * i + 8)
-        → Found b at f i w (get_or f (i + 1) 0) → Found b at f (i + 1) w' (get_or f (i + 2) 0) → Found b at f (i + 2) w'' (get_or f i 0) → PairedFace f (mates_standing b at f) i
-    paired_face w w' w'' e e' e'' k k' k'' =
-        let n : i + 1 ≡ i / 3 * 3 + (i + 1) % 3 = omega arith in
-        let n' : i + 2 ≡ (i + 1) / 3 * 3 + (i + 1 + 1) % 3 = omega arith in
-        let n'' : i ≡ (i + 2) / 3 * 3 + (i + 2 + 1) % 3 = omega arith in
-        let p' : at + 4 * i + 4 ≡ at + 4 * (i + 1) = omega arith in
-        let p'' : at + 4 * i + 8 ≡ at + 4 * (i + 2) = omega arith in
-        record {
-          first = paired_at i w _ (omega arith) e (ap (λ (z : ℕ). get_or f z 0) n) k;
-          second = paired_at (i + 1) w' _ (omega arith) (e' ∙ ap (number 4 b) p') (ap (λ (z : ℕ). get_or f z 0) n') k';
-          third = paired_at (i + 2) w'' _ (omega arith) (e'' ∙ ap (number 4 b) p'') (ap (λ (z : ℕ). get_or f z 0) n'') k'';
-        }
+  pub paired_face : (i w w' w'' : ℕ) → i % 3 ≡ 0 → w ≡ get_or m i 0 → w' ≡ get_or m (i + 1) 0 → w'' ≡ get_or m (i + 2) 0
+      → Found f m i w (get_or f (i + 1) 0) → Found f m (i + 1) w' (get_or f (i + 2) 0) → Found f m (i + 2) w'' (get_or f i 0) → PairedFace f m i
+  paired_face i w w' w'' t e e' e'' k k' k'' =
+      let n : i + 1 ≡ i / 3 * 3 + (i + 1) % 3 = omega arith in
+      let n' : i + 2 ≡ (i + 1) / 3 * 3 + (i + 1 + 1) % 3 = omega arith in
+      let n'' : i ≡ (i + 2) / 3 * 3 + (i + 2 + 1) % 3 = omega arith in
+      record {
+        first = paired_at i w _ e (ap (λ (z : ℕ). get_or f z 0) n) k;
+        second = paired_at (i + 1) w' _ e' (ap (λ (z : ℕ). get_or f z 0) n') k';
+        third = paired_at (i + 2) w'' _ e'' (ap (λ (z : ℕ). get_or f z 0) n'') k'';
+      }
 
 pub face-more : (f m : List ℕ) (i : ℕ) → ((u : ℕ) → u < i → PairedAt f m u) → PairedFace f m i → (u : ℕ) → u < i + 3 → PairedAt f m u
 face-more f m i all p =
@@ -68,6 +59,11 @@ module _ (f m : List ℕ) (h : Paired f m) where
       let c = h w a.within in
       rw (lt-ltb w (length f) a.within) (eq-eqb _ _ (ap₂ edge_number a.meets (sym c.meets ∙ ap (from f) a.back)))
 
-  pub no_wrong_mate : wrong_mate f m ≡ Ok tt
+  no_wrong_mate : wrong_mate f m ≡ Ok tt
   unfolding wrong_mate
   no_wrong_mate = each_none (length f) (is_reverse f m) (λ u. WrongMate) paired_reverse
+
+  -- so that the first cause decides
+  pub order_alone : (c : Cause) → c ≡ or_else c (wrong_mate f m)
+  order_alone (Ok _) = sym no_wrong_mate
+  order_alone (Err r) = refl

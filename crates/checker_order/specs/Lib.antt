@@ -1,3 +1,4 @@
--- What the scan of the mates tests at a time.
+-- What the scans read, ask for and test.
 pub mod Reverses
 pub mod Paired
+pub mod EdgesGiven

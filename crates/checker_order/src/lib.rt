@@ -1,18 +1,29 @@
-// The checker's scans of a sheet's order list and mates, once the order list is read. The mates are judged where they stand, so that the functions take the bytes and the
-// place of the mates in them, and the faces' corners by threes, by the first one's number.
+// The checker's scans of a sheet's order list and mates, once the order list is read. The mates are judged where they stand in the sheet, so that the scans take their bytes,
+// and the mates of a face together, by its first use.
 #![tactic(auto)]
 
 ghost use Rattle.std.specs.Prelude.{◌≡◌, true, ◌&&◌, ◌||◌, ◌+◌, ◌*◌, ◌%◌, ◌≤◌, ◌<◌, eqb, ltb, length, get_or};
 ghost use Rattle.refusals.specs.Causes.{or_else};
-ghost use Rattle.mesh_orders.specs.Edges.{max_faces, edge_number, edge, IsUse};
-ghost use Rattle.sheet_layout.specs.LittleEndian.{number, unpack};
+ghost use Rattle.mesh_orders.specs.Edges.{max_faces, edge_number, edge, from};
+ghost use Rattle.sheet_layout.specs.LittleEndian.{unpack};
 ghost use Rattle.sheet.specs.Checker.{wrong_order, wrong_mate};
-ghost use Rattle.checker_order.specs.Reverses.{Listed, reverses};
+ghost use Rattle.checker_order.specs.Reverses.{Listed, mates_of, reverses};
 ghost use Rattle.checker_order.specs.Paired.{PairedFace, Paired};
+ghost use Rattle.checker_order.specs.EdgesGiven.{GivesEdges};
 
-use mesh_orders::edges::{edge, number, start};
+use mesh_orders::edges::{edge, number};
 use refusals::Refusal;
 use sheet_layout::u32_at;
+
+// A face list with the bytes of its mates.
+#[derive(Clone, Copy)]
+struct MatedFaces<'a> {
+    faces: &'a [u32],
+    mates: &'a [u8],
+    ghost whole: { length faces.now % 3 ≡ 0 },
+    ghost few: { length faces.now ≤ 3 * max_faces },
+    ghost room: { length mates.now ≡ 4 * length faces.now },
+}
 
 // Whether edge e, at place i of the order list, is above the last one, if there is one.
 fn is_above(i: usize, last: u64, e: u64) -> bool
@@ -21,36 +32,98 @@ fn is_above(i: usize, last: u64, e: u64) -> bool
     i == 0 || last < e
 }
 
-// The edge of use u. Where the mates are paired the mate of u leaves the vertex that u reaches, and no division by 3 is needed to find it. `paired` is what a test of all
-// mates gave, once for the sheet; the answer is the same.
-fn edge_of(faces: &[u32], sheet: &[u8], at: usize, paired: bool, u: u32) -> u64
-    requires { IsUse faces.now u × (at + 4 * length faces.now ≤ length sheet.now) × (paired ≡ true → Paired faces.now (unpack 4 (length faces.now) sheet.now at)) }
-    ensures { result ≡ edge faces.now u }
-{
-    if paired {
-        let k = u as usize;
-        return number(faces[k], start(faces, u32_at(sheet, at + 4 * k)));
+impl<'a> MatedFaces<'a> {
+    // The mate of use k.
+    fn mate(self, k: usize) -> u32
+        requires { k < length self.faces.now }
+        ensures { result ≡ get_or (mates_of self.entry.faces.now self.entry.mates.now) k 0 }
+    {
+        u32_at(self.mates, 4 * k)
     }
-    edge(faces, u)
+
+    // Whether w is an edge use that leaves vertex x and has the mate u.
+    fn points_back(self, u: usize, w: u32, x: u32) -> bool
+        ensures { result ≡ true → (w < length self.entry.faces.now) × (from self.entry.faces.now w ≡ x) × (get_or (mates_of self.entry.faces.now self.entry.mates.now) w 0 ≡ u) }
+    {
+        let k = w as usize;
+        k < self.faces.len() && self.faces[k] == x && self.mate(k) as usize == u
+    }
+
+    // Whether the mates of the three edge uses of a face, of which i is the first, are paired.
+    fn is_paired(self, i: usize) -> bool
+        requires { (i % 3 ≡ 0) × (i < length self.faces.now) }
+        ensures { result ≡ true → PairedFace self.entry.faces.now (mates_of self.entry.faces.now self.entry.mates.now) i }
+    {
+        self.points_back(i, self.mate(i), self.faces[i + 1])
+            && self.points_back(i + 1, self.mate(i + 1), self.faces[i + 2])
+            && self.points_back(i + 2, self.mate(i + 2), self.faces[i])
+    }
+
+    fn all_paired(self) -> bool
+        ensures { result ≡ true → Paired self.entry.faces.now (mates_of self.entry.faces.now self.entry.mates.now) }
+    {
+        for i in (0..self.faces.len()).step_by(3) {
+            if !self.is_paired(i) {
+                return false;
+            }
+        }
+        true
+    }
+
+    // Whether the mate w is an edge use, of the edge (from, to).
+    fn has_edge(self, w: u32, from: u32, to: u32) -> bool
+        ensures { result ≡ (ltb w (length self.entry.faces.now) && eqb (edge self.entry.faces.now w) (edge_number from to)) }
+    {
+        (w as usize) < self.faces.len() && edge(self.faces, w) == number(from, to)
+    }
+
+    // Whether the mates of the three edge uses of a face, of which i is the first, are reverses.
+    fn are_reverses(self, i: usize) -> bool
+        requires { (i % 3 ≡ 0) × (i < length self.faces.now) }
+        ensures { result ≡ reverses self.entry.faces.now (mates_of self.entry.faces.now self.entry.mates.now) i }
+    {
+        let a = self.faces[i];
+        let b = self.faces[i + 1];
+        let c = self.faces[i + 2];
+        self.has_edge(self.mate(i), b, a)
+            && self.has_edge(self.mate(i + 1), c, b)
+            && self.has_edge(self.mate(i + 2), a, c)
+    }
+
+    // Cause 18: a mate that is no edge use, or not the reverse.
+    fn wrong_mate(self) -> Result<(), Refusal>
+        ensures { result ≡ wrong_mate self.entry.faces.now (mates_of self.entry.faces.now self.entry.mates.now) }
+    {
+        for i in (0..self.faces.len()).step_by(3) {
+            if !self.are_reverses(i) {
+                return Err(Refusal::WrongMate);
+            }
+        }
+        Ok(())
+    }
+
+    // The edge of use u, by paired mates: the mate of u leaves the vertex that u reaches, and no division by 3 is needed to find it.
+    fn edge_by_mate(self, u: u32) -> u64
+        requires { (u < length self.faces.now) × Paired self.faces.now (mates_of self.faces.now self.mates.now) }
+        ensures { result ≡ edge self.entry.faces.now u }
+    {
+        let k = u as usize;
+        number(self.faces[k], self.faces[self.mate(k) as usize])
+    }
 }
 
-// Cause 17: an entry of the order list that is no edge use, or whose edge does not ascend strictly. The mates stand from place at on.
-fn wrong_order(
-    faces: &[u32],
-    order: &[u32],
-    sheet: &[u8],
-    at: usize,
-    paired: bool,
-) -> Result<(), Refusal>
-    requires { Listed faces.now order.now sheet.now at × (paired ≡ true → Paired faces.now (unpack 4 (length faces.now) sheet.now at)) }
+// Cause 17: an entry of the order list that is no edge use, or whose edge does not ascend strictly. `edge_of` gives the edge of a use.
+fn wrong_order<F: Fn(u32) -> u64>(faces: &[u32], order: &[u32], edge_of: F) -> Result<(), Refusal>
+    requires size { length order.now ≡ length faces.now }
+    requires edges { GivesEdges (F.pre edge_of) (F.post edge_of) faces.now }
     ensures { result ≡ wrong_order faces.now order.now }
 {
     let mut last = 0;
-    for (i, u) in order.iter().enumerate() {
-        if faces.len() <= *u as usize {
+    for (i, &u) in order.iter().enumerate() {
+        if faces.len() <= u as usize {
             return Err(Refusal::WrongOrder);
         }
-        let e = edge_of(faces, sheet, at, paired, *u);
+        let e = edge_of(u);
         if !is_above(i, last, e) {
             return Err(Refusal::WrongOrder);
         }
@@ -59,89 +132,19 @@ fn wrong_order(
     Ok(())
 }
 
-// Whether w is an edge use that leaves vertex x and has the mate u.
-fn points_back(faces: &[u32], sheet: &[u8], at: usize, u: usize, w: u32, x: u32) -> bool
-    requires { at + 4 * length faces.now ≤ length sheet.now }
-    ensures { result ≡ true → (w < length faces.now) × (get_or faces.now w 0 ≡ x) × (number 4 sheet.now (at + 4 * w) ≡ u) }
-{
-    let k = w as usize;
-    k < faces.len() && faces[k] == x && u32_at(sheet, at + 4 * k) as usize == u
-}
-
-// Whether the mates of the three edge uses of a face, of which i is the first, are paired.
-fn is_paired(faces: &[u32], sheet: &[u8], at: usize, i: usize) -> bool
-    requires { (length faces.now % 3 ≡ 0) × (i % 3 ≡ 0) × (i < length faces.now) × (at + 4 * length faces.now ≤ length sheet.now) }
-    ensures { result ≡ true → PairedFace faces.now (unpack 4 (length faces.now) sheet.now at) i }
-{
-    let place = at + 4 * i;
-    points_back(faces, sheet, at, i, u32_at(sheet, place), faces[i + 1])
-        && points_back(
-            faces,
-            sheet,
-            at,
-            i + 1,
-            u32_at(sheet, place + 4),
-            faces[i + 2],
-        )
-        && points_back(faces, sheet, at, i + 2, u32_at(sheet, place + 8), faces[i])
-}
-
-fn all_paired(faces: &[u32], sheet: &[u8], at: usize) -> bool
-    requires { (length faces.now % 3 ≡ 0) × (length faces.now ≤ 3 * max_faces) × (at + 4 * length faces.now ≤ length sheet.now) }
-    ensures { result ≡ true → Paired faces.now (unpack 4 (length faces.now) sheet.now at) }
-{
-    for i in (0..faces.len()).step_by(3) {
-        if !is_paired(faces, sheet, at, i) {
-            return false;
-        }
-    }
-    true
-}
-
-// Whether the mate w is an edge use, of the edge (from, to).
-fn has_edge(faces: &[u32], w: u32, from: u32, to: u32) -> bool
-    requires { length faces.now % 3 ≡ 0 }
-    ensures { result ≡ (ltb w (length faces.now) && eqb (edge faces.now w) (edge_number from to)) }
-{
-    (w as usize) < faces.len() && edge(faces, w) == number(from, to)
-}
-
-// Whether the mates of the three edge uses of a face, of which i is the first, are reverses.
-fn are_reverses(faces: &[u32], sheet: &[u8], at: usize, i: usize) -> bool
-    requires { (length faces.now % 3 ≡ 0) × (i % 3 ≡ 0) × (i < length faces.now) × (at + 4 * length faces.now ≤ length sheet.now) }
-    ensures { result ≡ reverses faces.now (unpack 4 (length faces.now) sheet.now at) i }
-{
-    let a = faces[i];
-    let b = faces[i + 1];
-    let c = faces[i + 2];
-    let place = at + 4 * i;
-    has_edge(faces, u32_at(sheet, place), b, a)
-        && has_edge(faces, u32_at(sheet, place + 4), c, b)
-        && has_edge(faces, u32_at(sheet, place + 8), a, c)
-}
-
-// Cause 18: a mate, of those from place at on, that is no edge use, or not the reverse.
-fn wrong_mate(faces: &[u32], sheet: &[u8], at: usize) -> Result<(), Refusal>
-    requires { (length faces.now % 3 ≡ 0) × (length faces.now ≤ 3 * max_faces) × (at + 4 * length faces.now ≤ length sheet.now) }
-    ensures { result ≡ wrong_mate faces.now (unpack 4 (length faces.now) sheet.now at) }
-{
-    for i in (0..faces.len()).step_by(3) {
-        if !are_reverses(faces, sheet, at, i) {
-            return Err(Refusal::WrongMate);
-        }
-    }
-    Ok(())
-}
-
-// The causes 17 and 18, with the mates from place at on. Paired mates are reverses; only where they are not is each tested as the definition has it.
+// The causes 17 and 18, with the mates from place at on. Paired mates are reverses and give the edges; only where they are not paired is each tested as the definition has it.
 pub fn wrong_lists(faces: &[u32], order: &[u32], sheet: &[u8], at: usize) -> Result<(), Refusal>
     requires { Listed faces.now order.now sheet.now at }
     ensures { result ≡ or_else (wrong_order faces.now order.now) (wrong_mate faces.now (unpack 4 (length faces.now) sheet.now at)) }
 {
-    let paired = all_paired(faces, sheet, at);
-    wrong_order(faces, order, sheet, at, paired)?;
-    if paired {
-        return Ok(());
+    let end = at + 4 * faces.len();
+    let mated = MatedFaces {
+        faces,
+        mates: &sheet[at..end],
+    };
+    if mated.all_paired() {
+        return wrong_order(faces, order, |u| mated.edge_by_mate(u));
     }
-    wrong_mate(faces, sheet, at)
+    wrong_order(faces, order, |u| edge(faces, u))?;
+    mated.wrong_mate()
 }

@@ -1,3 +1,4 @@
 -- What the scans read and compare; `Read` is for the crates above too.
 pub mod Read
+mod Chunks
 mod Compare

@@ -1,4 +1,4 @@
-// The checker's scans of a sheet's doubles: the stations' coordinates, and a stored row beside a computed one.
+// The checker's scans of a sheet's doubles: the stations' coordinates, and a stored row beside a computed one. A kind stays its number (sheet_rows/src/kinds.rt).
 #![tactic(auto)]
 
 ghost use Rattle.std.specs.Prelude.{◌≡◌, ◌+◌, ◌*◌, ◌≤◌, length};
@@ -13,17 +13,16 @@ use refusals::Refusal;
 use sheet_layout::{f64_at, u64_at};
 use sheet_rows::Row;
 
-// Cause 3 of the n doubles from place at on, by their number: they are read where they stand.
+// Cause 3 of the n doubles from place at on: they are read where they stand.
 pub fn out_of_limits_at(sheet: &[u8], at: usize, n: usize) -> Result<(), Refusal>
     requires { at + 8 * n ≤ length sheet.now }
     ensures { result ≡ out_of_limits (doubles (unpack 8 n sheet.now at)) }
 {
-    for i in 0..n {
-        if !within_limits(f64_at(sheet, at + 8 * i)) {
-            return Err(Refusal::OutOfLimits);
-        }
+    let (numbers, _) = sheet[at..at + 8 * n].as_chunks::<8>();
+    if numbers.iter().all(|b| within_limits(f64_at(b, 0))) {
+        return Ok(());
     }
-    Ok(())
+    Err(Refusal::OutOfLimits)
 }
 
 // Whether the doubles from place at on have the bits of xs.

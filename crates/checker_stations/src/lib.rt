@@ -42,7 +42,8 @@ fn place_of(sheet: Sheet, i: u32) -> Vector
     sheet_readers::vector_at(sheet.bytes, sheet.station_start(i))
 }
 
-// The n stations from the one with the number first on.
+// The n stations from the one with the number first on. As `StationRange::of`, from a sheet's bytes: one function for both would take the place as a closure, with a record of where
+// it may be called and what it gives (as `fold_used` of polyhedron_centroid has), and be no shorter than the two loops.
 fn block_of(sheet: Sheet, first: usize, n: usize) -> StationRange
     requires { (n ≤ block_size) × (first + n ≤ stations_in sheet.bytes.now) }
     ensures range { (result.first ≡ first) × (result.n ≡ n) }
@@ -69,9 +70,8 @@ fn check_block(
         (s.first + s.n ≤ stations_in b) × ((j : ℕ) → j < s.n → get_or fields j no_field ≡ field_in b (s.first + j)) }
     ensures { let b = sheet.entry.bytes.now in let s = block.now in result ≡ first_of s.n (λ j. check_station b (parse b) (s.first + j)) }
 {
-    for j in 0..block.n {
-        let field = fields[j];
-        check_station(sheet, block.number(j), field)?;
+    for (j, field) in fields[..block.n].iter().enumerate() {
+        check_station(sheet, block.number(j), *field)?;
     }
     Ok(())
 }

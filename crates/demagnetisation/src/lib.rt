@@ -1,5 +1,6 @@
 // Demagnetising factors of an ellipsoid, the magnetisation that they allow, and the Königsberger ratio. Arguments stay one by one, as C passes them and the formulas
-// name them: each call takes other ones together, and a struct would be made for one function and taken apart in the next.
+// name them: the semi-axes are taken in turn, and a struct of susceptibility, field and remanence would be made anew by each call from C, for one formula with a tensor and one
+// without, and every formula takes the three apart.
 #![tactic(auto)]
 
 ghost use Rattle.std.specs.Prelude.{◌≡◌};

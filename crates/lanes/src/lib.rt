@@ -19,8 +19,8 @@ pub fn roots<const N: usize>(x: &[f64; N], r: &mut [f64; N])
     ensures { Lanes N (λ (k : ℕ). Root (lane x.now k)) r.new }
 {
     let mut w = [0.0; N];
-    for k in 0..N {
-        w[k] = roots::root(x[k]);
+    for (k, wk) in w.iter_mut().enumerate() {
+        *wk = roots::root(x[k]);
     }
     *r = w;
 }

@@ -1,5 +1,5 @@
 // atan of several numbers side by side. A loop walks several arrays in step, by an index from 0 to N - 1: of one body over fixed arrays the
-// compiler makes packed instructions, and a chain of zipped iterators would be no plainer.
+// compiler makes packed instructions, and a chain of zipped iterators would be no plainer. Each number has an array of its own, as `lanes_rc` takes them.
 #![tactic(auto)]
 
 ghost use Rattle.std.specs.Prelude.{ℕ};

@@ -1,8 +1,8 @@
-// atan2 of several pairs of numbers side by side. A loop that walks several arrays in step counts an index from 0 to N - 1: of one body over
-// fixed arrays the compiler makes packed instructions, and a chain of zipped iterators would be no plainer.
+// atan2 of several pairs of numbers side by side. A loop goes over the lanes that it writes, and reads the other arrays at the same place: of
+// one body over fixed arrays the compiler makes packed instructions.
 #![tactic(auto)]
 
-ghost use Rattle.std.specs.Prelude.{◌≡◌, true, ℕ, ◌<◌};
+ghost use Rattle.std.specs.Prelude.{◌≡◌, true, ℕ, ◌<◌, IfSome};
 ghost use Rattle.std.specs.Float.Ieee.{le};
 ghost use Rattle.doubles.specs.Rounded.{◌⊕◌, ◌⊗◌, ◌⊘◌};
 ghost use Rattle.doubles.specs.Constants.{1·0};
@@ -43,19 +43,24 @@ fn atan2_from(s: f64, c: f64, a: f64) -> f64
     pick(c < 0.0, a + signed(s, doubles::PI), a)
 }
 
-// s/c of each lane; a yes means that s and c are proper in each.
-fn quotients<const N: usize>(s: &[f64; N], c: &[f64; N], z: &mut [f64; N]) -> bool
-    ensures { (Lanes N (λ (k : ℕ). lane s.now k ⊘ lane c.now k) z.new)
-        × (result ≡ true → (k : ℕ) → k < N → Proper (lane s.now k) (lane c.now k)) }
+// s/c of each lane, if s and c are proper in each. The lanes are all computed, and whether they are proper is looked at after the
+// loop: a branch inside would undo the packed instructions.
+fn quotients<const N: usize>(s: &[f64; N], c: &[f64; N]) -> Option<[f64; N]>
+    ensures { IfSome result (λ z. (Lanes N (λ (k : ℕ). lane s.now k ⊘ lane c.now k) z)
+        × ((k : ℕ) → k < N → Proper (lane s.now k) (lane c.now k))) }
 {
     let mut good = true;
-    for k in 0..N {
+    let mut z = [0.0; N];
+    for (k, zk) in z.iter_mut().enumerate() {
         let sk = s[k];
         let ck = c[k];
         good = good & is_proper(sk, ck);
-        z[k] = sk / ck;
+        *zk = sk / ck;
     }
-    good
+    if !good {
+        return None;
+    }
+    Some(z)
 }
 
 // Whether |z| is up to 1 in every lane: what a yes means. No lane ends the loop early, so that the tests are packed.
@@ -77,9 +82,9 @@ fn reduce<const N: usize>(z: &[f64; N], w: &mut [f64; N])
     if all_within(z) {
         return;
     }
-    for k in 0..N {
+    for (k, wk) in w.iter_mut().enumerate() {
         let zk = z[k];
-        w[k] = pick(abs(zk) <= 1.0, zk, 1.0 / zk);
+        *wk = pick(abs(zk) <= 1.0, zk, 1.0 / zk);
     }
 }
 
@@ -87,30 +92,29 @@ fn reduce<const N: usize>(z: &[f64; N], w: &mut [f64; N])
 fn one_and_square<const N: usize>(w: &[f64; N], y: &mut [f64; N])
     ensures { Lanes N (λ (k : ℕ). 1·0 ⊕ lane w.now k ⊗ lane w.now k) y.new }
 {
-    for k in 0..N {
+    for (k, yk) in y.iter_mut().enumerate() {
         let wk = w[k];
-        y[k] = 1.0 + wk * wk;
+        *yk = 1.0 + wk * wk;
     }
 }
 
-// atan2 of each lane, where the answer is yes; it is yes where s and c are not zero and their quotient is a number. Only what a yes
-// means is promised: after a no the caller takes the angles one by one, so that a wrong no would cost time and no answer. The array is
-// lent, and no Option of it returned, so that no lane is copied.
-pub fn atan2<const N: usize>(s: &[f64; N], c: &[f64; N], out: &mut [f64; N]) -> bool
-    ensures { result ≡ true → (Lanes N (λ (k : ℕ). atan2 (lane s.now k) (lane c.now k)) out.new)
-        × ((k : ℕ) → k < N → Proper (lane s.now k) (lane c.now k)) }
+// atan2 of each lane, if s and c are not zero and their quotient is a number in each. Only what a Some holds is promised: after a None
+// the caller takes the angles one by one, so that a wrong None would cost time and no answer.
+pub fn atan2<const N: usize>(s: &[f64; N], c: &[f64; N]) -> Option<[f64; N]>
+    ensures { IfSome result (λ a. (Lanes N (λ (k : ℕ). atan2 (lane s.now k) (lane c.now k)) a)
+        × ((k : ℕ) → k < N → Proper (lane s.now k) (lane c.now k))) }
 {
+    let z = quotients(s, c)?;
     let one = [1.0; N];
-    let mut z = [0.0; N];
     let mut y = [0.0; N];
     let mut r = [0.0; N];
-    let good = quotients(s, c, &mut z);
     let mut w = z;
     reduce(&z, &mut w);
     one_and_square(&w, &mut y);
     lanes_rc::rc(&one, &y, &mut r);
-    for k in 0..N {
-        out[k] = atan2_from(s[k], c[k], atan_from(z[k], w[k] * r[k]));
+    let mut a = [0.0; N];
+    for (k, ak) in a.iter_mut().enumerate() {
+        *ak = atan2_from(s[k], c[k], atan_from(z[k], w[k] * r[k]));
     }
-    good
+    Some(a)
 }

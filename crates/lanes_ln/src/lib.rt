@@ -1,8 +1,9 @@
 // ln of several numbers side by side. A loop walks several arrays in step, by an index from 0 to N - 1: of one body over fixed arrays the
-// compiler makes packed instructions, and a chain of zipped iterators would be no plainer.
+// compiler makes packed instructions, and a chain of zipped iterators would be no plainer. Each number has an array of its own: `lanes_rc` takes h and t so, and a
+// struct of s, t and h would be made and taken apart in `ln` alone.
 #![tactic(auto)]
 
-ghost use Rattle.std.specs.Prelude.{◌≡◌, true, ℕ, ◌<◌};
+ghost use Rattle.std.specs.Prelude.{◌≡◌, true, ℕ, ◌<◌, IfSome};
 ghost use Rattle.carlson.specs.Logarithm.{ln};
 ghost use Rattle.lanes.specs.Lanes.{lane, Lanes};
 ghost use Rattle.lanes_ln.specs.LnLanes.{Normal, pattern_of, scale_of, fraction_of, scale_at, fraction_at, square_at};
@@ -45,41 +46,50 @@ fn fraction_of(b: u64) -> f64
     f64::from_bits(d + 0x3ff0_0000_0000_0000 - d / 0x8_0000_0000_0000 * 0x10_0000_0000_0000)
 }
 
-// k, t and ((1 + t)/2)² of each lane; a yes means that each x is normal and above zero.
-fn split<const N: usize>(x: &[f64; N], s: &mut [f64; N], t: &mut [f64; N], h: &mut [f64; N]) -> bool
+// Whether each x is normal and above zero: what a yes means. No lane ends the loop early, so that the tests are packed.
+fn all_normal<const N: usize>(x: &[f64; N]) -> bool
+    ensures { result ≡ true → (k : ℕ) → k < N → Normal (lane x.now k) }
+{
+    let mut normal = true;
+    for xk in x {
+        normal = normal & is_normal(*xk);
+    }
+    normal
+}
+
+// k, t and ((1 + t)/2)² of each lane.
+fn split<const N: usize>(x: &[f64; N], s: &mut [f64; N], t: &mut [f64; N], h: &mut [f64; N])
     ensures { (Lanes N (λ (k : ℕ). scale_at (lane x.now k)) s.new)
         × (Lanes N (λ (k : ℕ). fraction_at (lane x.now k)) t.new)
-        × (Lanes N (λ (k : ℕ). square_at (lane x.now k)) h.new)
-        × (result ≡ true → (k : ℕ) → k < N → Normal (lane x.now k)) }
+        × (Lanes N (λ (k : ℕ). square_at (lane x.now k)) h.new) }
 {
-    let mut good = true;
     for k in 0..N {
-        let xk = x[k];
-        good = good & is_normal(xk);
-        let b = pattern_of(xk);
+        let b = pattern_of(x[k]);
         let tk = fraction_of(b);
         let m = (1.0 + tk) / 2.0;
         s[k] = scale_of(b);
         t[k] = tk;
         h[k] = m * m;
     }
-    good
 }
 
-// ln of each lane, where the answer is yes; it is yes where each x is normal and above zero. Only what a yes means is promised: after
-// a no the caller takes the logarithms one by one, so that a wrong no would cost time and no answer. The array is lent, and no
-// Option of it returned, so that no lane is copied.
-pub fn ln<const N: usize>(x: &[f64; N], out: &mut [f64; N]) -> bool
-    ensures { result ≡ true → Lanes N (λ (k : ℕ). ln (lane x.now k)) out.new }
+// ln of each lane, if each x is normal and above zero. Only what a Some holds is promised: after a None the caller takes the
+// logarithms one by one, so that a wrong None would cost time and no answer.
+pub fn ln<const N: usize>(x: &[f64; N]) -> Option<[f64; N]>
+    ensures { IfSome result (Lanes N (λ (k : ℕ). ln (lane x.now k))) }
 {
+    if !all_normal(x) {
+        return None;
+    }
     let mut s = [0.0; N];
     let mut t = [0.0; N];
     let mut h = [0.0; N];
     let mut c = [0.0; N];
-    let good = split(x, &mut s, &mut t, &mut h);
+    split(x, &mut s, &mut t, &mut h);
     lanes_rc::rc(&h, &t, &mut c);
+    let mut out = [0.0; N];
     for k in 0..N {
         out[k] = s[k] * LN_2 + (t[k] - 1.0) * c[k];
     }
-    good
+    Some(out)
 }

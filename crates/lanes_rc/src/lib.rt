@@ -1,6 +1,7 @@
 // Carlson's R_C of several numbers side by side. The lanes go through the loop together; one whose test fails stays as it is. Several
 // arrays are walked in step, so the loops over lanes count an index from 0 to N - 1: of one body over fixed arrays the compiler makes
-// packed instructions, and a chain of zipped iterators would be no plainer.
+// packed instructions, and a chain of zipped iterators would be no plainer. Each number has an array of its own, and no struct has them: the functions lend other ones to
+// read and other ones to write, and of x and y, which change only where a test holds, the rounds make copies then.
 #![tactic(auto)]
 
 ghost use Rattle.std.specs.Prelude.{◌≡◌, cond, false, ℕ, ◌<◌};

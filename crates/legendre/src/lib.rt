@@ -23,15 +23,14 @@ pub struct Rule {
     pub weights: [f64; MAX_ORDER],
 }
 
-// The n entries of the table from start on, with zeros after them. By the index, which is the place of an entry in both; over `r[..n].iter_mut()` the zeros would
-// need a proof of their own. t is the whole table, and n no length of it.
+// The n entries of the table from start on, with zeros after them. t is the whole table, and n no length of it.
 fn padded(t: &[u64; ENTRIES], start: usize, n: usize) -> [f64; MAX_ORDER]
     requires { (t.now ≡ table) × (n ≤ max_order) × (start + n ≤ length table) }
     ensures { result ≡ padded n (λ i. entry (start + i)) }
 {
     let mut r = [0.0; MAX_ORDER];
-    for i in 0..n {
-        r[i] = f64::from_bits(t[start + i]);
+    for (i, x) in r[..n].iter_mut().enumerate() {
+        *x = f64::from_bits(t[start + i]);
     }
     r
 }

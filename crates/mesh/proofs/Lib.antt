@@ -3,4 +3,5 @@ pub mod Scans
 pub mod CauseNumbers
 mod Faces
 mod Flips
+mod Pairs
 mod Counts

@@ -10,7 +10,7 @@ ghost use Rattle.mesh.specs.Check.{count_cause};
 use mesh_orders::edges::{MAX_FACES, MAX_VERTICES};
 use refusals::Refusal;
 
-// The causes 1, 2 and 12, for a work list of room entries.
+// The causes 1, 2 and 12, for a work list of room entries. The lists stay as C passes them: nothing is known of them yet.
 pub fn count_cause(verts: &[f64], faces: &[u32], room: usize) -> Result<(), Refusal>
     ensures { result ≡ count_cause verts.now faces.now room }
 {

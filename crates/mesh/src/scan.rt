@@ -4,15 +4,14 @@ ghost use Rattle.refusals.specs.Causes.{unless};
 ghost use Rattle.refusals.specs.declared.Refusal.TheVariants.{OutOfLimits};
 ghost use Rattle.lists.specs.Count.{Below};
 ghost use Rattle.lists.specs.CountingSort.{Placed};
-ghost use Rattle.mesh_orders.specs.Edges.{from, to, occurrences, max_faces, Faces};
+ghost use Rattle.mesh_orders.specs.Edges.{from, to, occurrences, max_faces};
 ghost use Rattle.mesh_orders.specs.Endpoint.{endpoint};
 ghost use Rattle.mesh_orders.specs.Order.{order_list, Uses};
 ghost use Rattle.mesh.specs.Check.{out_of_limits, no_such_vertex, flipped_edge, open_edge};
 
 use doubles::within_limits;
 use mesh_orders::edges::{edge, end, reverse, start};
-use mesh_orders::mates::mate;
-use mesh_orders::order::pass;
+use mesh_orders::order::{OrderedFaces, pass};
 use refusals::Refusal;
 
 // Whether all numbers are within the limits. It does not stop at the first that is not, so that the compiler can test several at a time.
@@ -48,7 +47,8 @@ fn all_name_vertices(vertices: usize, faces: &[u32]) -> bool
     }
 }
 
-// Cause 4: the face of the first corner that names none of the vertices. It is looked for only where there is one.
+// Cause 4: the face of the first corner that names none of the vertices. It is looked for only where there is one. How long the list is, is asked for, so that a face's
+// number is a u32: before this cause is tried the lists are no `Mesh`.
 pub fn no_such_vertex(vertices: usize, faces: &[u32]) -> Result<(), Refusal>
     requires { length faces.now ≤ 3 * max_faces }
     ensures { result ≡ no_such_vertex vertices faces.now }
@@ -64,37 +64,36 @@ pub fn no_such_vertex(vertices: usize, faces: &[u32]) -> Result<(), Refusal>
     Ok(())
 }
 
-// Cause 5: the first edge in the order list that occurs twice, which stands at the next place too. By the place, of which the definition speaks: over `windows(2)` the proof
-// would have to follow the iterator's rest.
-pub fn flipped_edge(faces: &[u32], order: &[u32]) -> Result<(), Refusal>
-    requires { Faces faces.now × (order.now ≡ order_list faces.now) }
-    ensures { result ≡ flipped_edge faces.now (order_list faces.now) }
+// Cause 5: the first edge in the order list that occurs twice, which stands at the next place too.
+pub fn flipped_edge(ordered: OrderedFaces) -> Result<(), Refusal>
+    ensures { let f = ordered.entry.faces.now in result ≡ flipped_edge f (order_list f) }
 {
-    for i in 1..order.len() {
-        let u = order[i - 1];
-        if edge(faces, u) == edge(faces, order[i]) {
-            return Err(Refusal::Flipped(start(faces, u), end(faces, u)));
+    for pair in ordered.order.windows(2) {
+        let u = pair[0];
+        if edge(ordered.faces, u) == edge(ordered.faces, pair[1]) {
+            return Err(Refusal::Flipped(start(ordered.faces, u), end(ordered.faces, u)));
         }
     }
     Ok(())
 }
 
 // Whether the reverse of use u's edge occurs. w is a guess at the use that has it.
-fn has_reverse(faces: &[u32], order: &[u32], u: u32, w: u32) -> bool
-    requires { Faces faces.now × (order.now ≡ order_list faces.now) × (u < length faces.now) × (w < length faces.now) }
-    ensures { result ≡ leb 1 (occurrences faces.now (to faces.now u) (from faces.now u)) }
+fn has_reverse(ordered: OrderedFaces, u: u32, w: u32) -> bool
+    requires { (u < length ordered.faces.now) × (w < length ordered.faces.now) }
+    ensures { let f = ordered.entry.faces.now in result ≡ leb 1 (occurrences f (to f u) (from f u)) }
 {
-    edge(faces, w) == reverse(faces, u) || (mate(faces, order, u) as usize) < faces.len()
+    edge(ordered.faces, w) == reverse(ordered.faces, u)
+        || (ordered.mate(u) as usize) < ordered.faces.len()
 }
 
 // Cause 6, with a guess for the reverse of each use in the order list.
-fn first_open(faces: &[u32], order: &[u32], guesses: &[u32]) -> Result<(), Refusal>
-    requires { Faces faces.now × (order.now ≡ order_list faces.now) × Uses faces.now guesses.now × (length guesses.now ≡ length faces.now) }
-    ensures { result ≡ open_edge faces.now (order_list faces.now) }
+fn first_open(ordered: OrderedFaces, guesses: &[u32]) -> Result<(), Refusal>
+    requires { let f = ordered.faces.now in Uses f guesses.now × (length guesses.now ≡ length f) }
+    ensures { let f = ordered.entry.faces.now in result ≡ open_edge f (order_list f) }
 {
-    for (i, &u) in order.iter().enumerate() {
-        if !has_reverse(faces, order, u, guesses[i]) {
-            return Err(Refusal::Open(start(faces, u), end(faces, u)));
+    for (i, &u) in ordered.order.iter().enumerate() {
+        if !has_reverse(ordered, u, guesses[i]) {
+            return Err(Refusal::Open(start(ordered.faces, u), end(ordered.faces, u)));
         }
     }
     Ok(())
@@ -103,15 +102,14 @@ fn first_open(faces: &[u32], order: &[u32], guesses: &[u32]) -> Result<(), Refus
 // Cause 6: the first edge in the order list whose reverse does not occur. Where every reverse occurs, once, the uses by to and from are the reverses of those by from
 // and to, place by place. They go into the spare list, with a counter for each vertex.
 pub fn open_edge(
-    faces: &[u32],
-    order: &[u32],
+    ordered: OrderedFaces,
     counts: &mut [u32],
     spare: &mut [u32],
 ) -> Result<(), Refusal>
-    requires { Faces faces.now × (order.now ≡ order_list faces.now) × Below faces.now (length counts.old) × (length spare.old ≡ length faces.now) }
-    ensures value { result ≡ open_edge faces.now (order_list faces.now) }
-    ensures placed { Placed (endpoint true faces.now) (order_list faces.now) spare.new }
+    requires { let f = ordered.faces.now in Below f (length counts.old) × (length spare.old ≡ length f) }
+    ensures value { let f = ordered.entry.faces.now in result ≡ open_edge f (order_list f) }
+    ensures placed { let f = ordered.entry.faces.now in Placed (endpoint true f) (order_list f) spare.new }
 {
-    pass(order, |u| end(faces, u), counts, spare);
-    first_open(faces, order, spare)
+    pass(ordered.order, |u| end(ordered.faces, u), counts, spare);
+    first_open(ordered, spare)
 }

@@ -14,7 +14,8 @@ pub struct Mesh<'a> {
     pub ghost body: { Body verts.now faces.now },
 }
 
-// The n faces of a mesh from first on.
+// The n faces of a mesh from first on. That they are eight at most is asked for where it is needed, and is no fact of the range: the sums of a station, near and far, never
+// asked for it.
 #[derive(Clone, Copy)]
 pub struct FaceRange<'a> {
     pub mesh: Mesh<'a>,
@@ -23,7 +24,7 @@ pub struct FaceRange<'a> {
     pub ghost within: { first + n ≤ face_count mesh.faces.now },
 }
 
-// The vertex with number i.
+// The vertex with number i, of any list that has it, vertices or stations. The bound on i is the number's own: a number with its list, in a struct, would be made for each vertex.
 pub fn vertex(verts: &[f64], i: u32) -> Vector
     requires { i < vertex_count verts.now }
     ensures { result ≡ vertex verts.now i }
@@ -80,7 +81,7 @@ impl<'a> Mesh<'a> {
         dot(self.corner(k, 0), self.normal(k)) / 6.0
     }
 
-    // The causes 7 and 8, or else the volume.
+    // The causes 7 and 8, or else the volume. By the face's number, which refusal 7 names.
     pub fn check_faces(self) -> Result<f64, Refusal>
         ensures { let m = self.entry in
             result ≡ solid_of (faces_cause m.verts.now m.faces.now) (volume m.verts.now m.faces.now) }

@@ -1,7 +1,7 @@
 // `check_mesh`: is a list of triangles a closed, consistently wound, outward-facing surface? Its definition, `check_mesh`, with the causes of refusal is in mesh/specs/Check; that
 // they say what document 01 says, in mesh_laws/specs/Laws and EarlyLaws; the parts that try a cause each, in mesh/src and mesh_orders/src.
 // The lists are lent, and come to meet their conditions one after another, so each function asks for those that it needs; once the faces' corners are tested, vertices and
-// faces are a `Mesh`.
+// faces are a `Mesh`, and its faces with their order list an `OrderedFaces`.
 #![tactic(auto)]
 
 mod mates;
@@ -16,6 +16,7 @@ ghost use Rattle.mesh_check.specs.CheckOrder.{check_order};
 ghost use Rattle.mesh_check.specs.CheckedMates.{HoldsMates, MatesRoom, mates_after, EdgesChecked};
 
 use mesh::surface::Mesh;
+use mesh_orders::order::OrderedFaces;
 use refusals::Refusal;
 
 // The causes 5 to 8, by the order list. counts has a counter for each vertex and spare an entry for each edge use; where none of the causes holds, spare has the mates in the order
@@ -31,8 +32,12 @@ fn check_order(
     ensures holds_mates { let m = mesh.entry in
         order_cause m.verts.now m.faces.now (order_list m.faces.now) ≡ Ok tt → HoldsMates m.faces.now spare.new }
 {
-    mesh::scan::flipped_edge(mesh.faces, order)?;
-    mesh::scan::open_edge(mesh.faces, order, counts, spare)?;
+    let ordered = OrderedFaces {
+        faces: mesh.faces,
+        order,
+    };
+    mesh::scan::flipped_edge(ordered)?;
+    mesh::scan::open_edge(ordered, counts, spare)?;
     mesh.check_faces()
 }
 

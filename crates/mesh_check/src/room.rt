@@ -19,7 +19,9 @@ const MEDIUM_ROOM: usize = 3 * 4096;
 // The edge uses of 32,768 faces, which is every mesh.
 const LARGE_ROOM: usize = 3 * MAX_FACES;
 
-// The causes 5 to 8, in a room for V vertices and U edge uses. Each room keeps a stack frame of its own: in one frame every mesh would touch the pages of the largest room.
+// The causes 5 to 8, in a room for V vertices and U edge uses. The room for mates, none or four bytes to a use, is asked for by
+// `check_surface_with_mates`, `by_size`, `check_in` and `check_edges`, each of which calls the next, and of the order list by `put_mates`. The first is public and takes lists, the
+// last has no mesh; for the three between, a struct of mesh and mates would be made at the one call of `by_size` and taken apart in `check_edges`. Each room keeps a stack frame of its own: in one frame every mesh would touch the pages of the largest room.
 #[inline(never)]
 fn check_in<const V: usize, const U: usize>(
     mesh: Mesh,

@@ -9,7 +9,7 @@ pub const MAX_FACES: usize = 32768;
 
 pub const MAX_STATIONS: usize = 65536;
 
-// The vertex that edge use u leaves.
+// The vertex that edge use u leaves. That u is a use is asked of the number, here and below: a use with its list, in a struct, would be made for each.
 pub fn start(faces: &[u32], u: u32) -> u32
     requires { IsUse faces.now u }
     ensures { result ≡ from faces.now u }

@@ -203,7 +203,7 @@ pub fn vector_within_limits(v: Vector) -> bool
     doubles::within_limits(v.x) & doubles::within_limits(v.y) & doubles::within_limits(v.z)
 }
 
-// ---- the numbers in order, field by field: nothing derives a struct from an array
+// ---- the numbers in order, field by field: nothing derives a struct from an array, or an array from a struct
 
 impl From<[f64; 3]> for Vector {
     ghost use Rattle.std.specs.Prelude.{◌≡◌};

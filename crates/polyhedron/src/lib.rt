@@ -2,13 +2,12 @@
 #![tactic(auto)]
 
 ghost use Rattle.std.specs.Prelude.{◌≡◌, length};
-ghost use Rattle.mesh_orders.specs.Order.{order_list};
 ghost use Rattle.mesh.specs.Check.{work_after};
 ghost use Rattle.polyhedron.specs.Polyhedron.{is_far, polyhedron_from, polyhedron_at, given_cause, polyhedron_cause, polyhedron};
 
 use mesh::surface::Mesh;
 use newtonian::{Newtonian, Vector};
-use polyhedron_centroid::Center;
+use polyhedron_centroid::{Center, OrderedMesh};
 use refusals::Refusal;
 
 // Beyond so many radii from the centroid the tetrahedra take over.
@@ -45,12 +44,11 @@ fn given_cause(p: Vector, verts: &[f64], faces: &[u32], room: usize) -> Result<(
     Err(Refusal::OutOfLimits)
 }
 
-// The field of a checked mesh at a single point, by its order list.
-fn single_point(p: Vector, mesh: Mesh, order: &[u32]) -> Result<Newtonian, Refusal>
-    requires { order.now ≡ order_list mesh.faces.now }
-    ensures { result ≡ polyhedron_at 0 p mesh.entry.verts.now mesh.entry.faces.now }
+// The field of a checked mesh at a single point.
+fn single_point(p: Vector, ordered: OrderedMesh) -> Result<Newtonian, Refusal>
+    ensures { result ≡ polyhedron_at 0 p ordered.entry.verts.now ordered.entry.faces.now }
 {
-    polyhedron_at(0, p, Center::of(mesh, order), mesh)
+    polyhedron_at(0, p, Center::of(ordered), ordered.mesh())
 }
 
 // The field of a closed polyhedron at a station, at unit Gρ; or refused by 1, 2, 12, 3, 4, 5, 6, 7, 8 or 11. verts has
@@ -67,6 +65,11 @@ pub fn polyhedron(
 {
     given_cause(station, verts, faces, work.len())?;
     mesh_check::check_surface(verts, faces, work)?;
-    let n = faces.len();
-    single_point(station, Mesh { verts, faces }, &work[..n])
+    let order = &work[..faces.len()];
+    let ordered = OrderedMesh {
+        verts,
+        faces,
+        order,
+    };
+    single_point(station, ordered)
 }

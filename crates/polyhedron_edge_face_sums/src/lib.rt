@@ -26,7 +26,7 @@ pub struct Triangle {
     pub ca: Side,
 }
 
-// Face k.
+// Face k. That it is one of the mesh's is asked of the number, here and in the mesh's methods: a number with its mesh, in a struct, would be made for each face.
 #[tactic(auto, unfolding(crate::specs::EdgeFaceSums::triangle_of))]
 fn triangle_of(mesh: Mesh, k: usize) -> Triangle
     requires { k < face_count mesh.faces.now }
@@ -100,7 +100,7 @@ impl Running {
         self.add_side(n, t.ca, l2, c.r);
     }
 
-    // The faces of the range, by their numbers. One function for all callers: compiled for each of them, `add_triangle` is slower.
+    // The faces of the range, by their numbers, which the definition and the mesh's methods take. One function for all callers: compiled for each of them, `add_triangle` is slower.
     pub fn add_triangles(&mut self, p: Vector, range: FaceRange)
         ensures { let r = range.entry in Adds p r.mesh.verts.now r.mesh.faces.now r.first r.n self.old self.new }
     {

@@ -1,4 +1,6 @@
-// Eight faces side by side, added in order to the field of a station. Corner or side j of face k stands at 8 j + k.
+// Eight faces side by side, added in order to the field of a station. Corner or side j of face k stands at 8 j + k. That the dyads are made of the normals is asked for, and is
+// no fact of `Group`: a group is filled part by part, and it comes true with the last; a struct that lends a filled group with that fact, as `HeldFaces` of polyhedron_group_sums, the one caller, does, would be made for
+// the one call of `add_block`.
 #![tactic(auto)]
 
 ghost use Rattle.std.specs.Prelude.{◌≡◌, ℕ, ◌<◌, ◌≤◌, IfSome};

@@ -77,7 +77,7 @@ impl Block {
         }
     }
 
-    // The tetrahedron over face k, added to the sums of each far station; points is room for its points.
+    // The tetrahedron over face k, added to the sums of each far station; points is room for its points. The bound on k is the number's own (polyhedron_edge_face_sums, `triangle_of`).
     fn add_far_face(
         &self,
         apex: Vector,
@@ -99,7 +99,7 @@ impl Block {
         self.add_points(points, sums);
     }
 
-    // The tetrahedra over the faces of the range, by their numbers, added to the sums of each far station.
+    // The tetrahedra over the faces of the range, by their numbers, which the definition and the mesh's methods take, added to the sums of each far station.
     fn add_tetrahedra(&self, apex: Vector, range: FaceRange, sums: &mut [Sums; 8])
         ensures { let r = range.entry in
             FarSums self.now.near (λ (i : ℕ). Fold r.n (λ (k : ℕ). add_tetrahedron (place_at self.now.places i) apex r.mesh.verts.now r.mesh.faces.now (r.first + k))) sums.old sums.new }

@@ -11,7 +11,7 @@ ghost use Rattle.polyhedron_far_points.specs.PointsOf.{field_of};
 ghost use Rattle.polyhedron_far_lanes.specs.EightFields.{place_at, field_at, Fields, put, Squares, three_steps};
 
 use newtonian::{Hessian, Newtonian, Vector, difference};
-use polyhedron_far_points::Points;
+use polyhedron_far_points::{POINT_COUNT, Points};
 
 // The places of eight stations, axis by axis.
 #[derive(Clone, Copy)]
@@ -50,15 +50,15 @@ impl Stations {
         }
     }
 
-    // The squared distances of the point u from them, in the lanes from o on. By the index: a loop with one body over fixed arrays is what the compiler makes packed instructions of.
+    // The squared distances of the point u from them, in the lanes from o on: a loop with one body, which is what the compiler makes packed instructions of.
     fn squares(&self, u: Vector, o: usize, q: &mut [f64; 24])
         requires { o + 8 ≤ 24 }
         ensures kept { (i : ℕ) → i < o → lane q.new i ≡ lane q.old i }
         ensures squares { Squares self.now.x self.now.y self.now.z u o q.new }
     {
-        for k in 0..8usize {
+        for (k, qk) in q[o..o + 8].iter_mut().enumerate() {
             let d = difference(u, self.at(k));
-            q[o + k] = newtonian::dot(d, d);
+            *qk = newtonian::dot(d, d);
         }
     }
 }
@@ -177,7 +177,7 @@ impl EightFields {
         self.add_point(points.w[n + 2], c, stations, 16, d);
     }
 
-    // The points' fields at the places of eight stations. By the number of the first of three points, which stand in four arrays.
+    // The points' fields at the places of eight stations; n is the number of the first of three points.
     pub fn of(places: &[Vector; 8], points: &Points) -> Self
         ensures { Fields (λ (k : ℕ). field_of (place_at places.now k) points.now) result.numbers }
     {
@@ -187,8 +187,8 @@ impl EightFields {
             roots: [0.0; 24],
         };
         let mut f = EightFields::zero();
-        for t in 0..72usize {
-            f.add_three(3 * t, points, &stations, &mut d);
+        for n in (0..POINT_COUNT).step_by(3) {
+            f.add_three(n, points, &stations, &mut d);
         }
         f
     }

@@ -1,4 +1,5 @@
-// The far field of a body at one station: the points of each face's tetrahedron, and their field.
+// The far field of a body at one station: the points of each face's tetrahedron, and their field. Station, apex and mesh stay arguments, those of the definition
+// `tetrahedra`: a struct of them would be made for one call.
 #![tactic(auto)]
 
 ghost use Rattle.std.specs.Prelude.{◌≡◌, ◌<◌};
@@ -13,7 +14,7 @@ use polyhedron_far_points::Points;
 use polyhedron_neumaier::Sums;
 use polyhedron_tetrahedra::MappedRule;
 
-// Adds the tetrahedron over face k to the sums; points is room for its points.
+// Adds the tetrahedron over face k to the sums; points is room for its points. The bound on k is the number's own (polyhedron_edge_face_sums, `triangle_of`).
 fn add_tetrahedron(
     p: Vector,
     apex: Vector,
@@ -35,7 +36,7 @@ fn add_tetrahedron(
     sums.add(&f.into());
 }
 
-// The sums over all faces, by their numbers; the rule and the room for points are made once.
+// The sums over all faces, by their numbers, which the definition and the mesh's methods take; the rule and the room for points are made once.
 fn face_sums(p: Vector, apex: Vector, mesh: Mesh) -> Sums
     ensures { let f = mesh.entry.faces.now in
         result.pairs ≡ Fold (face_count f) (add_tetrahedron p apex mesh.entry.verts.now f) no_sums }

@@ -87,14 +87,14 @@ impl Points {
         newtonian::difference(self.at(n), p)
     }
 
-    // The squared distances of the 24 points from n on. By the index: a loop with one body over fixed arrays is what the compiler makes packed instructions of.
+    // The squared distances of the 24 points from n on: a loop with one body over fixed arrays, which is what the compiler makes packed instructions of.
     fn squares(&self, p: Vector, n: usize, q: &mut [f64; 24])
         requires { n + 24 ≤ point_count }
         ensures { Lanes 24 (λ (k : ℕ). point_square p self.now.x self.now.y self.now.z (n + k)) q.new }
     {
-        for k in 0..24usize {
+        for (k, qk) in q.iter_mut().enumerate() {
             let d = self.offset(p, n + k);
-            q[k] = newtonian::dot(d, d);
+            *qk = newtonian::dot(d, d);
         }
     }
 
@@ -119,17 +119,17 @@ impl Points {
         sums
     }
 
-    // Their field at p, by runs of 24 points, whose roots are taken side by side. By the run's number, since its points stand in four arrays.
+    // Their field at p, by runs of 24 points, whose roots are taken side by side; n is the number of a run's first point.
     pub fn field(&self, p: Vector) -> Newtonian
         ensures { result ≡ field_of p self.now }
     {
         let mut q = [0.0; 24];
         let mut r = [0.0; 24];
         let mut sums = newtonian::zero_field();
-        for m in 0..9usize {
-            self.squares(p, 24 * m, &mut q);
+        for n in (0..POINT_COUNT).step_by(24) {
+            self.squares(p, n, &mut q);
             lanes::roots(&q, &mut r);
-            sums = self.add_points(p, 24 * m, &q, &r, sums);
+            sums = self.add_points(p, n, &q, &r, sums);
         }
         sums
     }

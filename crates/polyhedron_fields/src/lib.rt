@@ -3,14 +3,11 @@
 
 pub mod stations;
 
-ghost use Rattle.std.specs.Prelude.{◌≡◌, true, false, List, ℕ, Float, length};
+ghost use Rattle.std.specs.Prelude.{◌≡◌, List, ℕ, Float, length};
 ghost use Rattle.newtonian.specs.declared.Vector.{Vector};
-ghost use Rattle.polyhedron_edge_face_sums.specs.EdgeFaceSums.{sums_of};
-ghost use Rattle.polyhedron_edge_face_sums.specs.Carried.{Carries};
 ghost use Rattle.polyhedron_blocks.specs.Blocks.{block_size};
-ghost use Rattle.polyhedron.specs.Polyhedron.{polyhedron_from};
 ghost use Rattle.polyhedron_fields.specs.BlockFields.{BlockFields};
-ghost use Rattle.polyhedron_fields.specs.Walked.{is_near, far_sums, Walked};
+ghost use Rattle.polyhedron_fields.specs.Walked.{Walked};
 
 use crate::stations::StationRange;
 use mesh::surface::{FaceRange, Mesh};
@@ -23,18 +20,6 @@ use polyhedron_group::FEWEST;
 use polyhedron_neumaier::Sums;
 use refusals::Refusal;
 
-// The field at the station of number i, of which all faces are added: run is that of a near station, sums are those of a far one. `near` is what the block keeps of the
-// station.
-fn station_field(i: u32, near: bool, run: &Running, sums: &Sums) -> Result<Newtonian, Refusal>
-    ensures { (p c : Vector) (r : Float) (v : List Float) (f : List ℕ) → near ≡ is_near p c r →
-        (near ≡ true → Carries (sums_of p v f) run.now) → (near ≡ false → sums.now.pairs ≡ far_sums p c v f) → result ≡ polyhedron_from i p c r v f }
-{
-    if near {
-        return run.near_field(i);
-    }
-    Ok(sums.total())
-}
-
 // A list of fields before any is known.
 pub fn no_fields() -> [Result<Newtonian, Refusal>; STATIONS]
     ensures { length result ≡ block_size }
@@ -43,7 +28,7 @@ pub fn no_fields() -> [Result<Newtonian, Refusal>; STATIONS]
     [none; STATIONS]
 }
 
-// The fields at the stations of a block after the walk.
+// The fields at the stations of a block after the walk: a near one's by its run, a far one's by its sums.
 fn answers(
     stations: &StationRange,
     block: &Block,
@@ -55,7 +40,11 @@ fn answers(
 {
     let mut out = no_fields();
     for (j, answer) in out[..stations.n].iter_mut().enumerate() {
-        *answer = station_field(stations.number(j), block.near[j], &runs[j], &sums[j]);
+        *answer = if block.near[j] {
+            runs[j].near_field(stations.number(j))
+        } else {
+            Ok(sums[j].total())
+        };
     }
     out
 }
@@ -110,7 +99,8 @@ fn one_by_one(
     out
 }
 
-// The fields of a mesh at a block of stations. What the walk clears for eight stations would take longer than the field of one, or of a body with few faces.
+// The fields of a mesh at a block of stations, which is another one at each call. Center and mesh stay two: sheet_rows' `fields_at` has a center beside two lists,
+// which are asked to be a mesh for kind 1 alone, so that a struct of center and mesh would be made there for each block. What the walk clears for eight stations would take longer than the field of one, or of a body with few faces.
 pub fn fields_of(
     stations: &StationRange,
     center: Center,

@@ -9,7 +9,7 @@ use newtonian::Vector;
 use polyhedron_blocks::STATIONS;
 use polyhedron_centroid::Center;
 
-// The places of n stations, at most eight, from the one with the number first on.
+// The places of n stations, at most eight, from the one with the number first on. What makes one of a number and a count asks for both facts.
 #[derive(Clone, Copy)]
 pub struct StationRange {
     pub places: [Vector; STATIONS],

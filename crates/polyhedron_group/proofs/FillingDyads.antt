@@ -1,4 +1,4 @@
--- A counting loop that sets matrix k of several to g k. States: `no_dyads`, `one-dyad`, `all_dyads`: how it begins, goes on and ends. Assumes nothing.
+-- A loop that sets matrix k of several to g k. States: `no_dyads`, `one-dyad`, `all_dyads`: how it begins, goes on and ends. Assumes nothing.
 use mathlib.Core.Path.{◌≡◌, ◌∙◌}
 use mathlib.Core.List.{List}
 use mathlib.Core.Logic.{⊎_elim}

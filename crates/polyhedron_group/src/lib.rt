@@ -1,5 +1,5 @@
-// Eight faces of a mesh side by side, from a face on: corner or side j of the face in lane k stands at 8 j + k. The loops count that place: a vector's three numbers
-// stand at it in three arrays, and the lane of the face follows from it.
+// Eight faces of a mesh side by side, from a face on: corner or side j of the face in lane k stands at 8 j + k. A loop that writes vectors counts that place, since a vector's
+// three numbers stand at it in three arrays.
 #![tactic(auto)]
 
 ghost use Rattle.std.specs.Prelude.{◌≡◌, ℕ, ◌/◌, ◌%◌, ◌≤◌, ◌<◌};
@@ -59,9 +59,9 @@ fn raw_normals(corners: &Vectors<24>, normals: &mut Vectors<8>, q: &mut [f64; 8]
 fn face_dyads(normals: &Vectors<8>, d: &mut [Hessian; 8])
     ensures { (k : ℕ) → k < 8 → matrix_at d.new k ≡ face_dyad normals.now.x normals.now.y normals.now.z k }
 {
-    for k in 0..8usize {
+    for (k, dk) in d.iter_mut().enumerate() {
         let n = normals.at(k);
-        d[k] = dyad(n, n);
+        *dk = dyad(n, n);
     }
 }
 
@@ -70,10 +70,10 @@ fn side_dyads(normals: &Vectors<8>, side_normals: &Vectors<24>, d: &mut [Hessian
     ensures { (i : ℕ) → i < 24 → matrix_at d.new i ≡ side_dyad normals.now.x normals.now.y normals.now.z
         side_normals.now.x side_normals.now.y side_normals.now.z i }
 {
-    for i in 0..24usize {
+    for (i, di) in d.iter_mut().enumerate() {
         let n = normals.at(i % 8);
         let m = side_normals.at(i);
-        d[i] = dyad(n, m);
+        *di = dyad(n, m);
     }
 }
 

@@ -3,7 +3,7 @@
 // fixed arrays the compiler makes packed instructions.
 #![tactic(auto)]
 
-ghost use Rattle.std.specs.Prelude.{◌≡◌, true, ℕ, ◌+◌, ◌%◌, ◌<◌};
+ghost use Rattle.std.specs.Prelude.{◌≡◌, true, ℕ, ◌+◌, ◌%◌, ◌<◌, IfSome};
 ghost use Rattle.std.specs.Float.Ieee.Scale.{finite};
 ghost use Rattle.lanes.specs.Lanes.{lane, Lanes};
 ghost use Rattle.polyhedron_logarithms.specs.Sides.{ratio};
@@ -41,7 +41,7 @@ impl SeenCorners {
     }
 }
 
-// What the logarithm of the edge of length e from a to b is of. Both forms of the gap, and then one: no branch.
+// What the logarithm of the edge of length e from a to b is of; the three stay arguments, as in polyhedron_edge_terms. Both forms of the gap, and then one: no branch.
 fn ratio_of(a: Corner, b: Corner, e: f64) -> f64
     ensures { result ≡ ratio a b e }
 {
@@ -82,13 +82,16 @@ fn finite_24(w: &[f64; 24]) -> bool
     w.iter().fold(true, |all, v| all & doubles::is_finite(*v))
 }
 
-// The logarithms of the sides, where the answer is true.
-pub fn logarithms_24(c: &SeenCorners, e: &[f64; 24], out: &mut [f64; 24]) -> bool
-    ensures { result ≡ true → Lanes 24 (logarithm_of c.now e.now) out.new
-        × ((k : ℕ) → k < 24 → finite (lane out.new k) ≡ true) }
+// The logarithms of the sides, if they are finite.
+pub fn logarithms_24(c: &SeenCorners, e: &[f64; 24]) -> Option<[f64; 24]>
+    ensures { IfSome result (λ l. Lanes 24 (logarithm_of c.now e.now) l
+        × ((k : ℕ) → k < 24 → finite (lane l k) ≡ true)) }
 {
     let mut q = [0.0; 24];
     ratios_24(c, e, &mut q);
-    let good = lanes_ln::ln(&q, out);
-    good & finite_24(out)
+    let l = lanes_ln::ln(&q)?;
+    if !finite_24(&l) {
+        return None;
+    }
+    Some(l)
 }

@@ -10,16 +10,17 @@ use newtonian::{Newtonian, Vector};
 use polyhedron_edge_face_sums::Running;
 use polyhedron_faces::Group;
 use polyhedron_group::FEWEST;
+use polyhedron_group_sums::HeldFaces;
 use refusals::Refusal;
 
-// The group of the range's faces, made and added to the sums of the station at p.
+// The group of the range's faces, made and added to the sums of the station at p. Eight faces at most is asked for here and below, and is no fact of a range (mesh/src/surface.rt).
 fn add_new_group(run: &mut Running, p: Vector, range: FaceRange)
     requires { range.n ≤ 8 }
     ensures { let r = range.entry in Adds p r.mesh.verts.now r.mesh.faces.now r.first r.n run.old run.new }
 {
     let mut g = Group::zeros();
     polyhedron_group::group(range, &mut g);
-    polyhedron_group_sums::add_group(run, p, range, &g);
+    polyhedron_group_sums::add_group(run, p, &HeldFaces { range, group: &g });
 }
 
 // The faces of the range, added to the sums of the station at p. Where they are too few for lanes no room for a group is cleared.

@@ -1,7 +1,8 @@
 // The edges that give a logarithm that is not finite: keys, nine numbers for each, and a count.
 #![tactic(auto)]
 
-ghost use Rattle.std.specs.Prelude.{◌≡◌, [], List, ℕ, suc, ◌≢◌, ◌<◌, ◌≤◌, MatchOption, slice_index};
+ghost use Rattle.std.specs.Prelude.{◌≡◌, [], List, ℕ, suc, ◌≢◌, ◌<◌, ◌≤◌, length, get_or, MatchOption, slice_index};
+ghost use Rattle.newtonian.specs.Numbers.{hessian_of};
 ghost use Rattle.polyhedron_on_edge.specs.OnEdge.{edge_limit, edge_key, Edge, add_matrices, add_dyad, infinite_entry, infinite_row, infinite_entries, add_infinite};
 ghost use Rattle.polyhedron_on_edge.specs.Block.{dyad_in};
 
@@ -89,30 +90,20 @@ impl Edges {
         }
     }
 
+    // The sums that the edges have, nine numbers to an edge.
+    fn dyads(&self) -> &[[f64; 9]]
+        ensures { (length result.now ≡ edge_limit) × ((i : ℕ) → i < edge_limit → hessian_of (get_or result.now i []) ≡ dyad_in self.now.dyads i) }
+    {
+        let (dyads, _) = self.dyads.as_chunks::<9>();
+        dyads
+    }
+
     // The sum that edge i has.
-    #[tactic(auto, unfolding(crate::specs::Block::dyad_in))]
     fn dyad(&self, i: usize) -> Hessian
         requires { i < edge_limit }
         ensures { result ≡ dyad_in self.now.dyads i }
     {
-        let n = i * 9;
-        Hessian {
-            x: Vector {
-                x: self.dyads[n],
-                y: self.dyads[n + 1],
-                z: self.dyads[n + 2],
-            },
-            y: Vector {
-                x: self.dyads[n + 3],
-                y: self.dyads[n + 4],
-                z: self.dyads[n + 5],
-            },
-            z: Vector {
-                x: self.dyads[n + 6],
-                y: self.dyads[n + 7],
-                z: self.dyads[n + 8],
-            },
-        }
+        self.dyads()[i].into()
     }
 
     fn store(&mut self, i: usize, d: Hessian)
@@ -154,14 +145,14 @@ impl Edges {
         self.count += 1;
     }
 
-    // The Hessian with the entries that the edges make infinite. By the number, since an edge's nine numbers are taken out by it.
+    // The Hessian with the entries that the edges make infinite.
     pub fn add_infinite(&self, t: Hessian) -> Hessian
         requires { self.now.count ≤ edge_limit }
         ensures { (es : List Edge) → HoldsEdges es self.now → result ≡ add_infinite es t }
     {
         let mut sums = t;
-        for i in 0..self.count {
-            sums = infinite_entries(sums, self.dyad(i));
+        for d in &self.dyads()[..self.count] {
+            sums = infinite_entries(sums, Hessian::from(*d));
         }
         sums
     }

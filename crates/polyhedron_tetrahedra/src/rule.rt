@@ -17,7 +17,10 @@ pub struct MappedRule {
 
 impl MappedRule {
     // By the index, which is the place of a point in four arrays.
-    pub fn new() -> Self {
+    pub fn new() -> Self
+        ensures nodes { result.nodes ≡ mapped_nodes }
+        ensures weights { result.weights ≡ mapped_weights }
+    {
         let rule = legendre::Rule::of_order(POINTS as u32);
         let mut nodes = [0.0; POINTS];
         let mut weights = [0.0; POINTS];

@@ -3,8 +3,6 @@
 
 ghost use Rattle.std.specs.Prelude.{◌≡◌, true, false, ℕ, ◌≤◌, ◌<◌, get_or};
 ghost use Rattle.polyhedron_blocks.specs.Blocks.{block_size};
-ghost use Rattle.polyhedron_group.specs.Group.{fewest};
-ghost use Rattle.polyhedron_group.specs.Held.{HoldsGroup};
 ghost use Rattle.polyhedron_walk.specs.Groups.{BlockAdds};
 
 use mesh::surface::FaceRange;
@@ -12,16 +10,17 @@ use polyhedron_blocks::STATIONS;
 use polyhedron_edge_face_sums::Running;
 use polyhedron_faces::Group;
 use polyhedron_far::Block;
+use polyhedron_group_sums::HeldFaces;
 
-// The group g, added to the sums of each near station of the block.
-fn group_to_block(runs: &mut [Running; STATIONS], block: &Block, range: FaceRange, g: &Group)
-    requires few { range.n ≤ 8 }
-    requires holds { fewest ≤ range.n → HoldsGroup range.mesh.verts.now range.mesh.faces.now range.first g.now }
-    ensures { let r = range.entry in BlockAdds block.now r.mesh.verts.now r.mesh.faces.now r.first r.n runs.old runs.new }
+// The faces, added to the sums of each near station of the block.
+fn group_to_block(runs: &mut [Running; STATIONS], block: &Block, faces: &HeldFaces)
+    ensures { let r = faces.now.range in BlockAdds block.now r.mesh.verts.now r.mesh.faces.now r.first r.n runs.old runs.new }
 {
     for (j, run) in runs.iter_mut().enumerate() {
-        let p = block.places[j];
-        polyhedron_group_sums::group_if_near(run, block.near[j], p, range, g);
+        if block.near[j] {
+            let p = block.places[j];
+            polyhedron_group_sums::add_group(run, p, faces);
+        }
     }
 }
 
@@ -32,7 +31,7 @@ fn one_group(runs: &mut [Running; STATIONS], block: &Block, range: FaceRange)
 {
     let mut g = Group::zeros();
     polyhedron_group::group(range, &mut g);
-    group_to_block(runs, block, range, &g);
+    group_to_block(runs, block, &HeldFaces { range, group: &g });
 }
 
 // Whether no station of the block is near.

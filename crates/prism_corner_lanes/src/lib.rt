@@ -1,9 +1,10 @@
 // The corner sums of a prism, with the logarithms and the angles of all corners side by side. Of corner k, what belongs to the axes x, y
 // and z stands at k, 8 + k and 16 + k. A loop over lanes walks several arrays in step, by an index: of one body over fixed arrays the
-// compiler makes packed instructions, and a chain of zipped iterators would be no plainer.
+// compiler makes packed instructions, and a chain of zipped iterators would be no plainer. `distances` takes its arrays one by one, since there is no `Corners` yet;
+// `sum` takes the logarithms and angles beside the coordinates, since they are made of a whole `Corners`: a struct of the three would be made for this one call.
 #![tactic(auto)]
 
-ghost use Rattle.std.specs.Prelude.{◌≡◌, true, ◌<◌};
+ghost use Rattle.std.specs.Prelude.{◌≡◌, true, ◌<◌, IfSome};
 ghost use Rattle.newtonian.specs.Fold.{Fold};
 ghost use Rattle.newtonian.specs.Vectors.{zero_field};
 ghost use Rattle.lanes.specs.Lanes.{Lanes};
@@ -14,7 +15,8 @@ use lanes::pick;
 use newtonian::{Newtonian, Vector};
 use prism_corner_sums::{Bounds, PrismCorner, coordinate};
 
-// The lower or the upper corner less the station.
+// The lower or the upper corner less the station; one function with a bool, since `coordinate` takes one: two would write the three axes out twice, and a closure would be
+// handed `coordinate` with the same bool in it.
 #[tactic(auto, unfolding(crate::specs::CornerLanes::offset))]
 fn offset(upper: bool, p: Vector, bounds: Bounds) -> Vector
     ensures { result ≡ offset upper p bounds.lo bounds.hi }
@@ -137,20 +139,19 @@ impl Corners {
         }
     }
 
-    // The logarithms, where the answer is yes. It is no where one is taken of a number that is not normal or not above zero. The array
-    // is lent, and no Option of it returned, so that no lane is copied.
-    fn logarithms(&self, l: &mut [f64; 24]) -> bool
-        ensures { result ≡ true → Lanes 24 (logarithm_at self.now) l.new }
+    // The logarithms, if each is taken of a number that is normal and above zero.
+    fn logarithms(&self) -> Option<[f64; 24]>
+        ensures { IfSome result (Lanes 24 (logarithm_at self.now)) }
     {
         let mut v = [0.0; 24];
-        let mut w = [0.0; 24];
         self.arguments(&mut v);
-        let good = lanes_ln::ln(&v, &mut w);
+        let w = lanes_ln::ln(&v)?;
+        let mut l = [0.0; 24];
         for k in 0..24 {
             let wk = w[k];
             l[k] = pick(self.at[k] >= self.top[k], -wk, wk);
         }
-        good
+        Some(l)
     }
 
     fn quotients(&self, q: &mut [f64; 24])
@@ -214,8 +215,7 @@ pub fn corner_sums(p: Vector, bounds: Bounds) -> Newtonian
         return prism_corner_sums::corner_sums(p, bounds);
     }
     let c = Corners::new(p, bounds.hi, seen);
-    let mut l = [0.0; 24];
-    if c.logarithms(&mut l) {
+    if let Some(l) = c.logarithms() {
         let mut a = [0.0; 24];
         c.angles(&mut a);
         return sum(&c.x, &l, &a);

@@ -1,4 +1,5 @@
-// The field of a rectangular prism in closed form, by the corner sums of Nagy, Papp & Benedek (2000).
+// The field of a rectangular prism in closed form, by the corner sums of Nagy, Papp & Benedek (2000). One axis' numbers and a corner's x, y, z and r stay arguments, as
+// the formulas have them: each is used for the three axes in turn.
 #![tactic(auto)]
 
 ghost use Rattle.std.specs.Prelude.{◌≡◌};
@@ -31,7 +32,8 @@ pub struct PrismCorner {
     pub angle: Vector,
 }
 
-// Of an upper or a lower face, as a corner's number says of each axis. −0 at an upper face makes a station on the face take the limit from outside.
+// Of an upper or a lower face. In `corner_at` a bit of the corner's number says which, so that two functions, or closures, would be chosen by that same bit at each of the three
+// axes; prism_corner_lanes, which takes all corners at once, asks for either side in turn. −0 at an upper face makes a station on the face take the limit from outside.
 #[tactic(auto, unfolding(crate::specs::CornerSums::coordinate))]
 pub fn coordinate(upper: bool, p: f64, lo: f64, hi: f64) -> f64
     ensures { result ≡ coordinate upper p lo hi }

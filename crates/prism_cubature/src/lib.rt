@@ -23,6 +23,7 @@ pub fn half_widths(bounds: Bounds) -> Vector
     }
 }
 
+// One axis' numbers stay arguments (prism_corner_sums).
 #[tactic(auto, unfolding(crate::specs::Cubature::offset))]
 fn offset(p: f64, lo: f64, hi: f64, h: f64, u: f64) -> f64
     ensures { result ≡ offset p lo hi h u }
@@ -38,7 +39,7 @@ fn point_weight(w: f64, wz: f64, h: Vector) -> f64
 }
 
 // The three sums are alike in their loops alone: one generic loop over a rule would have to say in its contract what its closure adds, which a closure within a closure cannot.
-// They go by the index, since a rule is two arrays in step, with room for more points than it has.
+// A rule has room for more nodes and weights than it has of them.
 
 // The sums f with the line of points at x and y that the rule along z gives.
 fn add_line(
@@ -55,10 +56,12 @@ fn add_line(
 {
     let h = half_widths(bounds);
     let mut sums = f;
-    for k in 0..rule.count {
-        let z = offset(p.z, bounds.lo.z, bounds.hi.z, h.z, rule.nodes[k]);
-        let wz = rule.weights[k];
-        sums = newtonian::add_point(point_weight(w, wz, h), Vector { x, y, z }, sums);
+    for (node, wz) in rule.nodes[..rule.count]
+        .iter()
+        .zip(&rule.weights[..rule.count])
+    {
+        let z = offset(p.z, bounds.lo.z, bounds.hi.z, h.z, *node);
+        sums = newtonian::add_point(point_weight(w, *wz, h), Vector { x, y, z }, sums);
     }
     sums
 }
@@ -79,9 +82,12 @@ fn add_layer(
 {
     let h = half_widths(bounds);
     let mut sums = f;
-    for j in 0..rule_y.count {
-        let y = offset(p.y, bounds.lo.y, bounds.hi.y, h.y, rule_y.nodes[j]);
-        sums = add_line(p, bounds, rule_z, w * rule_y.weights[j], x, y, sums);
+    for (node, wy) in rule_y.nodes[..rule_y.count]
+        .iter()
+        .zip(&rule_y.weights[..rule_y.count])
+    {
+        let y = offset(p.y, bounds.lo.y, bounds.hi.y, h.y, *node);
+        sums = add_line(p, bounds, rule_z, w * *wy, x, y, sums);
     }
     sums
 }
@@ -96,10 +102,12 @@ pub fn cubature(p: Vector, bounds: Bounds, l: u32, m: u32, n: u32) -> Newtonian
     let rule_z = Rule::of_order(n);
     let h = half_widths(bounds);
     let mut sums = newtonian::zero_field();
-    for i in 0..rule_x.count {
-        let x = offset(p.x, bounds.lo.x, bounds.hi.x, h.x, rule_x.nodes[i]);
-        let w = rule_x.weights[i];
-        sums = add_layer(p, bounds, &rule_y, &rule_z, w, x, sums);
+    for (node, w) in rule_x.nodes[..rule_x.count]
+        .iter()
+        .zip(&rule_x.weights[..rule_x.count])
+    {
+        let x = offset(p.x, bounds.lo.x, bounds.hi.x, h.x, *node);
+        sums = add_layer(p, bounds, &rule_y, &rule_z, *w, x, sums);
     }
     sums
 }

@@ -41,6 +41,7 @@ const MAX_ORDER: u32 = 16;
 
 const MAX_POINTS: u32 = 512;
 
+// One axis' numbers stay arguments (prism_corner_sums).
 #[tactic(auto, unfolding(crate::specs::Choice::squared_outside))]
 fn squared_outside(p: f64, lo: f64, hi: f64) -> f64
     ensures { result ≡ squared_outside p lo hi }
@@ -60,7 +61,8 @@ fn distance(p: Vector, bounds: Bounds) -> f64
     roots::root(-0.0 + x + y + z)
 }
 
-// x rounded up, but at least 1, and 17 for all that is above 16. Counted, since std's rounding up of a NaN or of a large number does not fit a u32.
+// x rounded up, but at least 1, and 17 for all that is above 16. Counted, since std's rounding up of a NaN or of a large number does not fit a u32; and by the number: as a
+// range that is filtered and counted, tried, it took a prism near 1.05 times the instructions.
 fn ceiling(x: f64) -> u32
     ensures { result ≡ ceiling x }
 {

@@ -1,20 +1,18 @@
 // `profile`: the fields of a closed polyhedron at many stations over one mesh, a record of thirteen numbers for each. The three
-// lists stay arguments, as C passes them; once they are checked, vertices and faces are a `Mesh`.
+// lists stay arguments, as C passes them; once they are checked, vertices, faces and order list are an `OrderedMesh`.
 #![tactic(auto)]
 
 ghost use Rattle.std.specs.Prelude.{◌≡◌, ◌*◌, ◌≤◌, length};
 ghost use Rattle.refusals.specs.Causes.{or_else};
 ghost use Rattle.newtonian.specs.Vectors.{field_size};
 ghost use Rattle.mesh_orders.specs.Edges.{max_stations};
-ghost use Rattle.mesh_orders.specs.Order.{order_list};
 ghost use Rattle.mesh.specs.Check.{work_after};
 ghost use Rattle.profile_records.specs.Records.{Done};
 ghost use Rattle.profile.specs.Profile.{station_count, field_at, malformed, too_many, too_short, given_cause, profile_cause, fields_after};
 
-use mesh::surface::Mesh;
 use mesh_orders::edges::{MAX_FACES, MAX_STATIONS, MAX_VERTICES};
 use newtonian::FIELD_SIZE;
-use polyhedron_centroid::Center;
+use polyhedron_centroid::{Center, OrderedMesh};
 use refusals::Refusal;
 
 // The causes 1, 2 and 12, for a work list of room entries and a list of space numbers for the records.
@@ -59,17 +57,16 @@ fn given_cause(
     mesh::scan::out_of_limits(stations)
 }
 
-// The records of a checked mesh, by its order list, up to the first station that is refused.
+// The records of a checked mesh up to the first station that is refused.
 fn checked_profile(
     stations: &[f64],
-    mesh: Mesh,
-    order: &[u32],
+    ordered: OrderedMesh,
     fields: &mut [f64],
 ) -> Result<(), Refusal>
-    requires { (order.now ≡ order_list mesh.faces.now) × (station_count stations.now ≤ max_stations) × (field_size * station_count stations.now ≤ length fields.old) }
-    ensures { Done (field_at mesh.entry.verts.now mesh.entry.faces.now stations.now) (station_count stations.now) fields.old result fields.new }
+    requires { (station_count stations.now ≤ max_stations) × (field_size * station_count stations.now ≤ length fields.old) }
+    ensures { Done (field_at ordered.entry.verts.now ordered.entry.faces.now stations.now) (station_count stations.now) fields.old result fields.new }
 {
-    profile_fields::profile_fields(stations, Center::of(mesh, order), mesh, fields)
+    profile_fields::profile_fields(stations, Center::of(ordered), ordered.mesh(), fields)
 }
 
 // The fields of a closed polyhedron at S stations, at unit Gρ, into the front of fields, thirteen numbers to a station: potential, gradient, Hessian
@@ -90,6 +87,11 @@ pub fn profile(
 {
     given_cause(stations, verts, faces, work.len(), fields.len())?;
     mesh_check::check_surface(verts, faces, work)?;
-    let n = faces.len();
-    checked_profile(stations, Mesh { verts, faces }, &work[..n], fields)
+    let order = &work[..faces.len()];
+    let ordered = OrderedMesh {
+        verts,
+        faces,
+        order,
+    };
+    checked_profile(stations, ordered, fields)
 }

@@ -31,7 +31,7 @@ fn block(
         Written a s.first o fields.old → Stored a (s.first + s.n) o result fields.new }
 {
     let answers = polyhedron_fields::fields_of(range, center, mesh);
-    profile_records::store(range.first, range.n, answers, fields)
+    profile_records::store(range.first, &answers[..range.n], fields)
 }
 
 // The records of all stations, up to the first that is refused. A block goes by its first station's number.

@@ -5,12 +5,10 @@ ghost use Rattle.std.specs.Prelude.{◌≡◌, List, ℕ, ◌+◌, ◌*◌, ◌�
 ghost use Rattle.refusals.specs.Answer.{Answer};
 ghost use Rattle.newtonian.specs.Vectors.{field_size};
 ghost use Rattle.newtonian.specs.declared.Newtonian.{Newtonian};
-ghost use Rattle.polyhedron_blocks.specs.Blocks.{block_size};
 ghost use Rattle.polyhedron_fields.specs.BlockFields.{no_field};
 ghost use Rattle.profile_records.specs.Records.{Written, Stored};
 
 use newtonian::{FIELD_SIZE, Newtonian};
-use polyhedron_blocks::STATIONS;
 use refusals::Refusal;
 
 // Stores the record of station i, where its answer is a field.
@@ -29,20 +27,18 @@ pub fn store_record(
     Ok(())
 }
 
-// Stores the records of the first n stations of a block, of which the first has the number first, up to the first station that is refused. The answers are those of a whole
-// block, as they are made, and n says how many of them are meant.
+// Stores the records of consecutive stations, of which the first has the number first, up to the first station that is refused.
 pub fn store(
     first: usize,
-    n: usize,
-    answers: [Result<Newtonian, Refusal>; STATIONS],
+    answers: &[Result<Newtonian, Refusal>],
     fields: &mut [f64],
 ) -> Result<(), Refusal>
-    requires { (n ≤ block_size) × (field_size * (first + n) ≤ length fields.old) }
+    requires { field_size * (first + length answers.now) ≤ length fields.old }
     ensures fields_len_unchanged { length fields.new ≡ length fields.old }
-    ensures by_index { (a : ℕ → Answer Newtonian) (o : List Float) → ((j : ℕ) → j < n → a (first + j) ≡ get_or answers j no_field) →
-        Written a first o fields.old → Stored a (first + n) o result fields.new }
+    ensures by_index { (a : ℕ → Answer Newtonian) (o : List Float) → ((j : ℕ) → j < length answers.now → a (first + j) ≡ get_or answers.now j no_field) →
+        Written a first o fields.old → Stored a (first + length answers.now) o result fields.new }
 {
-    for (j, answer) in answers[..n].iter().enumerate() {
+    for (j, answer) in answers.iter().enumerate() {
         store_record(first + j, *answer, fields)?;
     }
     Ok(())

@@ -48,8 +48,8 @@ fn put_line(out: &mut [u8], word: &[u8], x: u32, y: u32) -> usize
     d + 1
 }
 
-// Writes the line of a verdict at the start of out, and answers how many bytes it has. The room is the program's buffer, which is longer than a line, so that it is asked
-// for and is no type.
+// Writes the line of a verdict at the start of out, and answers how many bytes it has. Room for a line is asked
+// for, here and below: an array of one length, as a type, would ask more.
 pub fn verdict_line(verdict: Result<Accepted, Refusal>, out: &mut [u8]) -> usize
     requires { line_room ≤ length out.old }
     ensures { LineAtStart result out.new out.old (answer_line (verdict_answer verdict)) }

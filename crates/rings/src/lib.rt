@@ -116,20 +116,6 @@ pub fn cel(kc: f64, p: f64, a: f64, b: f64) -> Result<f64, Refusal>
 
 // ---- the ring
 
-// The derivative by ρ near the axis.
-#[tactic(auto, unfolding(crate::specs::Ring::near_axis))]
-fn near_axis(radius: f64, rho: f64, z: f64) -> f64
-    ensures { result ≡ near_axis radius rho z }
-{
-    let r2 = radius * radius;
-    let z2 = z * z;
-    let u = r2 + z2;
-    let w = roots::root(u);
-    0.5 * rho * (r2 - 2.0 * z2) / (u * u * w)
-        - rho * rho * rho / 16.0 * (-24.0 * z2 * z2 + 72.0 * z2 * r2 - 9.0 * r2 * r2)
-            / (u * u * (u * u) * w)
-}
-
 // A ring and a station (ρ, z): s and d are the squares of the distances to the ring's farthest and nearest points,
 // and m = 4Rρ/s.
 #[derive(Clone, Copy)]
@@ -160,6 +146,21 @@ impl RingStation {
         }
     }
 
+    // The derivative by ρ near the axis.
+    #[tactic(auto, unfolding(crate::specs::Ring::near_axis))]
+    fn near_axis(self) -> f64
+        ensures { result ≡ near_axis self.radius self.rho self.z }
+    {
+        let RingStation { radius, rho, z, .. } = self;
+        let r2 = radius * radius;
+        let z2 = z * z;
+        let u = r2 + z2;
+        let w = roots::root(u);
+        0.5 * rho * (r2 - 2.0 * z2) / (u * u * w)
+            - rho * rho * rho / 16.0 * (-24.0 * z2 * z2 + 72.0 * z2 * r2 - 9.0 * r2 * r2)
+                / (u * u * (u * u) * w)
+    }
+
     // The derivative by ρ away from the axis.
     #[tactic(auto, unfolding(crate::specs::Ring::off_axis))]
     fn off_axis(self) -> f64
@@ -180,7 +181,7 @@ impl RingStation {
             return 0.0;
         }
         if rho * rho < 9e-8 * (radius * radius + z * z) {
-            return near_axis(radius, rho, z);
+            return self.near_axis();
         }
         self.off_axis()
     }

@@ -1,5 +1,4 @@
-// Numbers in lent bytes, lowest byte first: u32, u64 and f64, one at a time and in runs. A place is an argument beside the bytes: callers compute each anew, so that
-// nothing would be kept in a cursor.
+// Numbers in lent bytes, lowest byte first: u32, u64 and f64, one at a time and in runs.
 #![tactic(auto)]
 
 ghost use Rattle.std.specs.Prelude.{◌≡◌, ℕ, ◌+◌, ◌*◌, ◌^◌, ◌≤◌, ◌<◌, map, length, replicate, refl, T};
@@ -134,7 +133,9 @@ pub fn put_all<T: Stored>(s: &mut [u8], at: usize, xs: &[T])
     }
 }
 
-// ---- By type. The contracts speak of numbers and bytes, and not of the words of `Stored`, which callers would have to open at each use.
+// ---- By type: one call each of the trait, or of `read_all` or `put_all`, and zeros. These stay for their contracts: `number 4 s i` and `pack 4 xs`, where the trait's and the
+// generics' say `of_number (number SIZE s i)` and `pack SIZE (map as_number xs)`, which each caller's proof would have to open. Bytes, place and numbers stay side by side: `sets s i ..` says in one equation what becomes of
+// all bytes, and a cursor or a subslice would say it of a part.
 
 // The u32 at place i.
 pub fn u32_at(s: &[u8], i: usize) -> u32

@@ -51,7 +51,7 @@ impl TrailerFields {
     }
 }
 
-// Where the trailer begins.
+// Where the trailer begins. This and its neighbours ask that the bytes are long enough for a trailer, and no more need be known of them: a `Sheet` would ask more.
 pub fn trailer(bytes: &[u8]) -> usize
     requires { trailer_length ≤ length bytes.now }
     ensures { result ≡ trailer bytes.now }

@@ -77,7 +77,7 @@ impl<'a> Sheet<'a> {
         self.station_start(self.trailer.stations) + rows_length(self.trailer.kind, i)
     }
 
-    // Here and below, that 16, 1 and 2 let the bytes pass is asked for: the struct says no more than the methods before this one need.
+    // Here and below, that 16, 1 and 2 let the bytes pass is asked for: as a fact of the struct it would be asked of the methods before this one too, which need less.
     // Station i; nothing past the last.
     #[tactic(auto, using(crate::proofs::Handed::past_stations, crate::proofs::Handed::station_from))]
     pub fn station(self, i: usize) -> &'a [u8]

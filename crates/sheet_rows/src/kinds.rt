@@ -1,6 +1,8 @@
-// The kinds of a sheet, what each decides, and the limits on a sheet's counts. A kind stays the number that C's callers pass and a sheet's bytes hold: an enum would be made
-// anew at each call, and of it the definitions, which speak of any number, say nothing. The counts stay
-// numbers side by side: a caller has them from lists, from a sheet's bytes or from C, and not together.
+// The kinds of a sheet, what each decides, and the limits on a sheet's counts. A kind stays the number that C's callers pass and a sheet's bytes hold, also past refusal 1:
+// the definitions and the theorem that what is accepted is right take any number, so that an enum would put a conversion into each contract and save no test. What is one
+// for both kinds takes the kind all the same, since by the definitions a kind decides it. The counts stay numbers side by side: `Sheet::open` has them from a trailer, as
+// u32 with other fields, sheet_readers' `sheet_length` from C as they are, and writer_causes' `lengths_cause` and writer's `write_counted` from the lengths of lists. A struct
+// would be made anew in each of the four, for two tests and the sheet's length, in the last for the length alone.
 ghost use Rattle.std.specs.Prelude.{◌≡◌, ◌*◌};
 ghost use Rattle.sheet_rows.specs.Kinds.{is_mesh, is_prism, known_kind, row_width, axis_rule, magnetic_constant, within_counts};
 

@@ -1,5 +1,5 @@
-// The row of a station. A kind stays its number (kinds.rt). Vertices, faces and order list stay lists, since they are a `Mesh` of one kind alone: a prism's are its two
-// corners and no face.
+// The row of a station. A kind stays its number (kinds.rt). Vertices, faces and order list stay lists: that they are a body is asked for kind 1 alone, and a `Mesh` would ask
+// it of a prism's too.
 #![tactic(auto)]
 
 pub mod kinds;
@@ -20,6 +20,7 @@ use mesh::surface::Mesh;
 use newtonian::{Newtonian, Vector};
 use polyhedron_blocks::STATIONS;
 pub use polyhedron_centroid::Center;
+use polyhedron_centroid::OrderedMesh;
 use polyhedron_fields::stations::StationRange;
 use prism_corner_sums::Bounds;
 use refusals::Refusal;
@@ -38,7 +39,12 @@ pub fn center_of(kind: u32, verts: &[f64], faces: &[u32], order: &[u32]) -> Cent
     ensures { result ≡ center_of kind verts.now faces.now }
 {
     if kinds::is_mesh(kind) {
-        return Center::of(Mesh { verts, faces }, order);
+        let ordered = OrderedMesh {
+            verts,
+            faces,
+            order,
+        };
+        return Center::of(ordered);
     }
     Center {
         centroid: Vector {

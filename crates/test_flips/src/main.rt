@@ -5,7 +5,7 @@
 // what the writer writes of the input that it holds: it prints for how many that is so.
 #![tactic(auto)]
 
-ghost use Rattle.std.specs.Prelude.{◌<◌, ◌≤◌, length};
+ghost use Rattle.std.specs.Prelude.{◌<◌, length};
 
 use sheet::{CORNERS_LENGTH, FACE_LENGTH, STATION_LENGTH, TRAILER_LENGTH, VERTEX_LENGTH};
 use sheet_readers::TrailerFields;
@@ -14,10 +14,10 @@ use std::io::{Read, Write};
 use test_replay::lines;
 
 // Whether byte i of a sheet was given, as are vertices and faces, stations, and the trailer's first 64 bytes.
-fn was_given(sheet: &[u8], i: usize) -> bool
-    requires { 80 ≤ length sheet.now }
-{
-    let at = sheet.len() - TRAILER_LENGTH;
+fn was_given(sheet: &[u8], i: usize) -> bool {
+    let Some(at) = sheet.len().checked_sub(TRAILER_LENGTH) else {
+        return false;
+    };
     if at <= i {
         return i < at + 64;
     }
@@ -38,9 +38,7 @@ struct Part {
 }
 
 impl Part {
-    fn count(&mut self, sheet: &[u8])
-        requires { length sheet.now ≤ 16384 }
-    {
+    fn count(&mut self, sheet: &[u8]) {
         if checker::check_sheet(sheet).is_ok() {
             self.accepted = self.accepted.wrapping_add(1);
             if test_rewrite::is_rewritten(sheet) {
@@ -68,7 +66,7 @@ struct Flips {
 impl Flips {
     // Counts the sheet with bit k of byte i flipped. It is as it was afterwards.
     fn flip(&mut self, sheet: &mut [u8], i: usize, k: u8)
-        requires { (80 ≤ length sheet.old) × (length sheet.old ≤ 16384) × (i < length sheet.old) × (k < 8) }
+        requires { (i < length sheet.old) × (k < 8) }
     {
         let was_given = was_given(sheet, i);
         sheet[i] ^= 1u8 << k;
@@ -81,20 +79,16 @@ impl Flips {
     }
 
     // All sheets with one bit flipped, by the bit's number: over the sheet's bytes a loop could not change and check the whole sheet.
-    fn of(sheet: &mut [u8]) -> Flips
-        requires { (80 ≤ length sheet.old) × (length sheet.old ≤ 16384) }
-    {
+    fn of(sheet: &mut [u8]) -> Flips {
         let mut flips = Flips::default();
-        for j in 0..8 * sheet.len() {
+        for j in 0..sheet.len().saturating_mul(8) {
             flips.flip(sheet, j / 8, (j % 8) as u8);
         }
         flips
     }
 }
 
-fn report(output: &mut impl Write, sheet: &mut [u8]) -> io::Result<()>
-    requires { (80 ≤ length sheet.old) × (length sheet.old ≤ 16384) }
-{
+fn report(output: &mut impl Write, sheet: &mut [u8]) -> io::Result<()> {
     let length = sheet.len();
     let verdict = if checker::check_sheet(sheet).is_ok() {
         "accepted"
@@ -114,7 +108,7 @@ fn report(output: &mut impl Write, sheet: &mut [u8]) -> io::Result<()>
 
 // Reads a sheet of that length, and reports on it. One that is shorter than a trailer, or is not there, is passed over.
 fn next_sheet(input: &mut impl Read, output: &mut impl Write, length: u32) -> io::Result<()> {
-    let mut bytes = [0; 16384];
+    let mut bytes = [0; test_rewrite::ROOM];
     let sheet = &mut bytes[..lines::small(length)];
     if input.read_exact(sheet).is_err() || sheet.len() < TRAILER_LENGTH {
         return Ok(());

@@ -1,8 +1,7 @@
-// Tries `check_sheet` at the limits of F and S, and with one more of each, and prints its verdicts. test_replay_damaged tries the limit of V. The loops count
-// places in arrays of a million bytes and more: of slices of these, taken apart, two goals did not close.
+// Tries `check_sheet` at the limits of F and S, and with one more of each, and prints its verdicts. test_replay_damaged tries the limit of V.
 #![tactic(auto)]
 
-ghost use Rattle.std.specs.Prelude.{◌≡◌, ◌+◌, ◌*◌, ◌≤◌, length};
+ghost use Rattle.std.specs.Prelude.{◌≡◌, ◌+◌, ◌*◌, ◌≤◌, ◌<◌, length};
 
 use newtonian::Vector;
 use std::io;
@@ -28,6 +27,13 @@ fn put_counts(sheet: &mut [u8], at: usize, v: u32, f: u32, s: u32)
     sheet_layout::put_u64(sheet, at + 72, at as u64);
 }
 
+// Room for N entries. A function, so that no proof counts a literal of a million.
+fn room<T: Copy, const N: usize>(zero: T) -> [T; N]
+    ensures { N ≡ length result }
+{
+    [zero; N]
+}
+
 fn vector(x: f64, y: f64, z: f64) -> Vector {
     Vector { x, y, z }
 }
@@ -35,25 +41,6 @@ fn vector(x: f64, y: f64, z: f64) -> Vector {
 // ---- F: a bipyramid of 32,768 faces, over a polygon of 16,384 corners on a parabola
 
 const CORNERS: u32 = 16384;
-
-fn vertex_room() -> [f64; 49158]
-    ensures { 49158 ≡ length result }
-{
-    [0.0; 49158]
-}
-
-fn face_room() -> [u32; 98304]
-    ensures { 98304 ≡ length result }
-{
-    [0; 98304]
-}
-
-// With one face more than the limit.
-fn faces_sheet() -> [u8; 1573028]
-    ensures { 1573028 ≡ length result }
-{
-    [0; 1573028]
-}
 
 fn put_vertex(verts: &mut [f64], at: usize, x: f64, y: f64, z: f64)
     requires { at + 3 ≤ length verts.old }
@@ -63,44 +50,34 @@ fn put_vertex(verts: &mut [f64], at: usize, x: f64, y: f64, z: f64)
     verts[at + 2] = z;
 }
 
-fn put_corners(verts: &mut [f64])
-    requires { 49152 ≤ length verts.old }
-{
+fn put_corners(verts: &mut [f64]) {
+    let (corners, _) = verts.as_chunks_mut::<3>();
     let mut x = 0.0;
-    for i in 0..16384 {
-        put_vertex(verts, 3 * i, x, x * x, 0.0);
+    for corner in corners {
+        *corner = [x, x * x, 0.0];
         x = x + 1.0;
     }
 }
 
-fn put_face(faces: &mut [u32], at: usize, a: u32, b: u32, c: u32)
-    requires { at + 3 ≤ length faces.old }
-{
-    faces[at] = a;
-    faces[at + 1] = b;
-    faces[at + 2] = c;
-}
-
 // From each edge of the polygon a face to the upper tip and one to the lower.
-fn put_faces(faces: &mut [u32])
-    requires { 98304 ≤ length faces.old }
-{
-    for i in 0..CORNERS {
-        let next = (i + 1) % CORNERS;
-        let at = 6 * (i as usize);
-        put_face(faces, at, i, next, CORNERS);
-        put_face(faces, at + 3, next, i, CORNERS + 1);
+fn put_faces(faces: &mut [u32]) {
+    let (pairs, _) = faces.as_chunks_mut::<6>();
+    let mut from = 0u32;
+    for pair in pairs {
+        let to = from.wrapping_add(1) % CORNERS;
+        *pair = [from, to, CORNERS, to, from, CORNERS + 1];
+        from = to;
     }
 }
 
 fn write_faces(sheet: &mut [u8]) {
-    let mut verts = vertex_room();
+    let mut verts: [f64; 49158] = room(0.0);
     put_corners(&mut verts);
     put_vertex(&mut verts, 49152, 8192.0, 1e8, 1000.0);
     put_vertex(&mut verts, 49155, 8192.0, 1e8, -1000.0);
-    let mut faces = face_room();
+    let mut faces: [u32; 98304] = room(0);
     put_faces(&mut faces);
-    let mut work = face_room();
+    let mut work: [u32; 98304] = room(0);
     let zero = vector(0.0, 0.0, 0.0);
     let stations = [0.0; 3];
     let _ = writer::write_sheet(
@@ -117,7 +94,8 @@ fn write_faces(sheet: &mut [u8]) {
 
 #[inline(never)]
 fn try_faces(rt: &impl Print) -> io::Result<()> {
-    let mut sheet = faces_sheet();
+    // As long as that of one face more than the limit.
+    let mut sheet: [u8; 1573028] = room(0);
     write_faces(&mut sheet);
     check(rt, "F = 32768", &sheet, 1572992)?;
     put_counts(&mut sheet, 1572948, 16386, 32769, 0);
@@ -126,28 +104,20 @@ fn try_faces(rt: &impl Print) -> io::Result<()> {
 
 // ---- S: one station of the tetrahedron T, as often as S
 
-// With one station more than the limit.
-fn stations_sheet() -> [u8; 5767576]
-    ensures { 5767576 ≡ length result }
-{
-    [0; 5767576]
-}
-
 // Writes n bytes of src, from place `from` on, to place `to` of dst.
 fn copy(src: &[u8], from: usize, n: usize, dst: &mut [u8], to: usize)
     requires { (from + n ≤ length src.now) × (to + n ≤ length dst.old) }
 {
-    for i in 0..n {
-        dst[to + i] = src[from + i];
-    }
+    dst[to..to + n].copy_from_slice(&src[from..from + n]);
 }
 
 // Writes in the places from `from` to `to` what stands w bytes before each: the w bytes before `from` over and over.
 fn copy_on(bytes: &mut [u8], w: usize, from: usize, to: usize)
-    requires { (w ≤ from) × (from ≤ to) × (to ≤ length bytes.old) }
+    requires { (0 < w) × (w ≤ from) × (from ≤ to) × (to ≤ length bytes.old) }
 {
-    for i in from..to {
-        bytes[i] = bytes[i - w];
+    let (before, after) = bytes[..to].split_at_mut(from);
+    for copy in after.chunks_exact_mut(w) {
+        copy.copy_from_slice(&before[from - w..]);
     }
 }
 
@@ -190,7 +160,8 @@ fn spread(one: &[u8], sheet: &mut [u8], s: u32)
 #[inline(never)]
 fn try_stations(rt: &impl Print) -> io::Result<()> {
     let one = one_station();
-    let mut sheet = stations_sheet();
+    // As long as that of one station more than the limit.
+    let mut sheet: [u8; 5767576] = room(0);
     spread(&one, &mut sheet, 65536);
     check(rt, "S = 65536", &sheet, 5767488)?;
     spread(&one, &mut sheet, 65537);

@@ -5,7 +5,7 @@
 ghost use Rattle.std.specs.Prelude.{◌≤◌, length};
 
 use refusals::Refusal;
-use test_replay::{double_at, runs, word_at};
+use test_replay::{double_at, from_place, runs, word_at};
 
 // A profile in a list: the line of its body, with the two lists, the order list and a table of stations, each with its thirteen numbers, and the line of
 // the profile, which names its stations by their places in the table.
@@ -13,10 +13,11 @@ use test_replay::{double_at, runs, word_at};
 pub struct Profile<'a> {
     pub body: &'a [u8],
     pub line: &'a [u8],
-    // how many entries the vertex list and the face list have
+    // how many entries the vertex list and the face list have, and where in the body's line the order list begins
     pub vertices: usize,
     pub faces: usize,
-    pub ghost within: { (vertices ≤ 1000) × (faces ≤ 1000) },
+    pub order: usize,
+    pub ghost within: { (order ≤ 2000) × (faces ≤ 1000) },
 }
 
 // What fields holds at i before a call: 2^52 + i.
@@ -35,19 +36,12 @@ pub fn mark_fields(fields: &mut [f64])
 }
 
 impl Profile<'_> {
-    // Where the order list begins in the body's line.
-    fn order_place(&self) -> usize
-        ensures { result ≤ 2000 }
-    {
-        self.vertices + self.faces
-    }
-
     // Where the numbers of the station that the profile has at i begin in the body's line: three, and the field's thirteen.
     fn station_place(&self, i: usize) -> usize
         requires { i ≤ 1000 }
         ensures { result ≤ 19000 }
     {
-        self.order_place() + self.faces + 16 * runs::length_at(self.line, 8 + i)
+        self.order + self.faces + 16 * runs::length_at(self.line, 8 + i)
     }
 
     pub fn read_stations(&self, stations: &mut [f64]) -> Option<()>
@@ -74,7 +68,7 @@ impl Profile<'_> {
         requires { i ≤ 1000 }
     {
         if i < n {
-            return word_at(self.body, self.order_place() + i);
+            return word_at(self.body, self.order + i);
         }
         Some(u64::from(runs::work_mark(i)))
     }
@@ -104,6 +98,6 @@ impl Profile<'_> {
                 [u64::from(r.number()), first, second]
             }
         };
-        runs::same_words(self.line, 3, &numbers)
+        runs::same_words(from_place(self.line, 3), &numbers)
     }
 }

@@ -25,6 +25,11 @@ pub fn word_at(s: &[u8], k: usize) -> Option<u64> {
     word(&places.get(k)?[..16])
 }
 
+// The list from place k on, of which nothing is left past its end.
+pub fn from_place(s: &[u8], k: usize) -> &[u8] {
+    s.get(k.saturating_mul(17)..).unwrap_or(&[])
+}
+
 // The double of those bits.
 pub fn double_at(s: &[u8], k: usize) -> Option<f64> {
     word_at(s, k).map(doubles::of_bits)

@@ -1,5 +1,5 @@
 // Runs of numbers in a list: vertices, faces, work, the numbers of a field.
-ghost use Rattle.std.specs.Prelude.{◌≤◌, length};
+ghost use Rattle.std.specs.Prelude.{◌≤◌};
 
 use crate::{double_at, word_at};
 use newtonian::{FIELD_SIZE, Newtonian};
@@ -39,22 +39,18 @@ impl Lengths {
     }
 }
 
-// Reads as many doubles as xs holds, from place `at` on.
-pub fn read_doubles(s: &[u8], at: usize, xs: &mut [f64]) -> Option<()>
-    requires { (at ≤ 10000) × (length xs.old ≤ 1000) }
-{
+// Reads as many doubles as xs holds, from the list's first on.
+pub fn read_doubles(s: &[u8], xs: &mut [f64]) -> Option<()> {
     for (i, x) in xs.iter_mut().enumerate() {
-        *x = double_at(s, at + i)?;
+        *x = double_at(s, i)?;
     }
     Some(())
 }
 
-// Reads as many indices as xs holds, from place `at` on.
-pub fn read_indices(s: &[u8], at: usize, xs: &mut [u32]) -> Option<()>
-    requires { (at ≤ 10000) × (length xs.old ≤ 1000) }
-{
+// Reads as many indices as xs holds, from the list's first number on, each up to its remainder by 2^32.
+pub fn read_indices(s: &[u8], xs: &mut [u32]) -> Option<()> {
     for (i, x) in xs.iter_mut().enumerate() {
-        *x = u32::try_from(word_at(s, at + i)?).ok()?;
+        *x = (word_at(s, i)? % 0x1_0000_0000) as u32;
     }
     Some(())
 }
@@ -70,14 +66,12 @@ pub fn mark(work: &mut [u32]) {
     }
 }
 
-// Whether these numbers stand from place `at` on.
-pub fn same_words(s: &[u8], at: usize, words: &[u64]) -> bool
-    requires { (at ≤ 10000) × (length words.now ≤ 1000) }
-{
+// Whether the list begins with these numbers.
+pub fn same_words(s: &[u8], words: &[u64]) -> bool {
     words
         .iter()
         .enumerate()
-        .all(|(i, word)| word_at(s, at + i) == Some(*word))
+        .all(|(i, word)| word_at(s, i) == Some(*word))
 }
 
 // The three numbers of an answer, zeros where there are fewer.
@@ -88,27 +82,21 @@ pub fn refused(r: Refusal) -> Numbers {
     [crate::refused(r), 0, 0]
 }
 
-// Whether the answer stands from place `at` on, where there is one.
-pub fn same_answer(s: &[u8], at: usize, answer: Option<Numbers>) -> Option<bool>
-    requires { at ≤ 10000 }
-{
-    Some(same_words(s, at, &answer?))
+// Whether the list begins with the answer, where there is one.
+pub fn same_answer(s: &[u8], answer: Option<Numbers>) -> Option<bool> {
+    Some(same_words(s, &answer?))
 }
 
-// Whether work is what stands from place `at` on.
-pub fn same_work(s: &[u8], at: usize, work: &[u32]) -> bool
-    requires { (at ≤ 10000) × (length work.now ≤ 98307) }
-{
+// Whether the list begins with the entries of work.
+pub fn same_work(s: &[u8], work: &[u32]) -> bool {
     work.iter()
         .enumerate()
-        .all(|(i, entry)| word_at(s, at + i) == Some(u64::from(*entry)))
+        .all(|(i, entry)| word_at(s, i) == Some(u64::from(*entry)))
 }
 
-// Whether the field's thirteen numbers stand from place `at` on.
-pub fn same_field(s: &[u8], at: usize, f: Newtonian) -> bool
-    requires { at ≤ 10000 }
-{
-    same_words(s, at, &<[f64; FIELD_SIZE]>::from(f).map(doubles::to_bits))
+// Whether the list begins with the field's thirteen numbers.
+pub fn same_field(s: &[u8], f: Newtonian) -> bool {
+    same_words(s, &<[f64; FIELD_SIZE]>::from(f).map(doubles::to_bits))
 }
 
 // The values of a refusal, 0 where there is none.

@@ -10,7 +10,7 @@ use newtonian::{Hessian, Vector};
 use refusals::Refusal;
 use std::io;
 use test_replay::runs::{Numbers, refused};
-use test_replay::{double_at, lines, runs, vector_at, word_at};
+use test_replay::{double_at, from_place, lines, runs, vector_at, word_at};
 
 // Nine numbers from place k on, row by row.
 fn matrix_at(line: &[u8], k: usize) -> Option<Hessian>
@@ -102,7 +102,7 @@ fn main(rt: HostRuntime) -> io::Result<()> {
         let line: [u8; 340] = lines::read(input)?;
         tally.count(
             word_at(&line, 0),
-            runs::same_answer(&line, 17, answer(&line)),
+            runs::same_answer(from_place(&line, 17), answer(&line)),
         );
         Some(())
     });

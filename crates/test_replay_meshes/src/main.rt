@@ -10,7 +10,7 @@ use refusals::Refusal;
 use std::io;
 use std::io::Write;
 use test_replay::runs::Lengths;
-use test_replay::{lines, runs};
+use test_replay::{from_place, lines, runs};
 
 // How a list writes an answer.
 fn numbers(answer: Result<f64, Refusal>) -> [u64; 3] {
@@ -37,12 +37,12 @@ fn agrees(line: &[u8], lengths: Lengths) -> Option<bool> {
     let verts = &mut verts[..v];
     let faces = &mut faces[..f];
     let work = &mut work[..n];
-    runs::read_doubles(line, 0, verts)?;
-    runs::read_indices(line, v, faces)?;
+    runs::read_doubles(line, verts)?;
+    runs::read_indices(from_place(line, v), faces)?;
     runs::mark(work);
     let answer = numbers(mesh_check::check_mesh(verts, faces, work));
-    let at = v + f;
-    Some(runs::same_words(line, at, &answer) && runs::same_work(line, at + 3, work))
+    let expected = from_place(line, v + f);
+    Some(runs::same_words(expected, &answer) && runs::same_work(from_place(expected, 3), work))
 }
 
 // The answer to v zeros as vertices and f zeros as faces.

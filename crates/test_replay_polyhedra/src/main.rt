@@ -11,16 +11,14 @@ use refusals::Refusal;
 use std::io;
 use std::io::Write;
 use test_replay::runs::Lengths;
-use test_replay::{lines, runs, vector_at};
+use test_replay::{from_place, lines, runs, vector_at};
 
-fn same_answer(line: &[u8], at: usize, answer: Result<Newtonian, Refusal>) -> bool
-    requires { at ≤ 4000 }
-{
+fn same_answer(expected: &[u8], answer: Result<Newtonian, Refusal>) -> bool {
     match answer {
-        Ok(f) => runs::same_field(line, at, f),
+        Ok(f) => runs::same_field(expected, f),
         Err(r) => {
             let [first, second] = runs::values(r);
-            runs::same_words(line, at, &[test_replay::refused(r), first, second])
+            runs::same_words(expected, &[test_replay::refused(r), first, second])
         }
     }
 }
@@ -39,12 +37,13 @@ fn agrees(line: &[u8], lengths: Lengths) -> Option<bool> {
     let verts = &mut verts[..v];
     let faces = &mut faces[..f];
     let work = &mut work[..n];
-    runs::read_doubles(line, 3, verts)?;
-    runs::read_indices(line, 3 + v, faces)?;
+    let lists = from_place(line, 3);
+    runs::read_doubles(lists, verts)?;
+    runs::read_indices(from_place(lists, v), faces)?;
     runs::mark(work);
     let answer = polyhedron::polyhedron(vector_at(line, 0)?, verts, faces, work);
-    let at = 3 + v + f;
-    Some(same_answer(line, at, answer) && runs::same_work(line, at + 13, work))
+    let expected = from_place(lists, v + f);
+    Some(same_answer(expected, answer) && runs::same_work(from_place(expected, 13), work))
 }
 
 // The number of the refusal of v zeros as vertices and f zeros as faces, if there is one.

@@ -4,7 +4,7 @@
 #![tactic(auto)]
 
 use std::io;
-use test_replay::{lines, runs, vector_at};
+use test_replay::{from_place, lines, runs, vector_at};
 
 // Whether the line's answer is the answer to its arguments.
 fn agrees(line: &[u8]) -> Option<bool> {
@@ -13,9 +13,10 @@ fn agrees(line: &[u8]) -> Option<bool> {
         vector_at(line, 3)?,
         vector_at(line, 6)?,
     );
+    let expected = from_place(line, 9);
     match answer {
-        Ok(f) => Some(runs::same_field(line, 9, f)),
-        Err(r) => Some(runs::same_words(line, 9, &[test_replay::refused(r)])),
+        Ok(f) => Some(runs::same_field(expected, f)),
+        Err(r) => Some(runs::same_words(expected, &[test_replay::refused(r)])),
     }
 }
 

@@ -12,13 +12,15 @@ use std::io;
 use std::io::{Read, Write};
 use test_records::Profile;
 use test_replay::lines::Tally;
-use test_replay::{lines, runs, word_at};
+use test_replay::{from_place, lines, runs, word_at};
 
 // The line of a profile: eight numbers and seventeen places, each of 17 bytes.
 const PROFILE_BYTES: usize = 425;
 
 // Whether the answer to a profile, work and fields are right.
-fn agrees(given: &Profile) -> Option<bool> {
+fn agrees(given: &Profile) -> Option<bool>
+    requires { given.now.vertices ≤ 1000 }
+{
     let mut verts = [0.0; 1000];
     let mut faces = [0; 1000];
     let mut stations = [0.0; 1000];
@@ -29,8 +31,8 @@ fn agrees(given: &Profile) -> Option<bool> {
     let stations = &mut stations[..runs::length_at(given.line, 0)];
     let work = &mut work[..runs::length_at(given.line, 1)];
     let fields = &mut fields[..runs::length_at(given.line, 2)];
-    runs::read_doubles(given.body, 0, verts)?;
-    runs::read_indices(given.body, given.vertices, faces)?;
+    runs::read_doubles(given.body, verts)?;
+    runs::read_indices(from_place(given.body, given.vertices), faces)?;
     given.read_stations(stations)?;
     runs::mark(work);
     test_records::mark_fields(fields);
@@ -48,6 +50,7 @@ fn next_agrees(input: &mut impl Read, body: &[u8], vertices: usize, faces: usize
         line: &line,
         vertices,
         faces,
+        order: vertices + faces,
     })
 }
 

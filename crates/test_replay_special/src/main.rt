@@ -8,7 +8,7 @@ use refusals::Refusal;
 use rings::{Complete, RingAverage};
 use std::io;
 use test_replay::runs::{Numbers, refused};
-use test_replay::{double_at, lines, runs, word_at};
+use test_replay::{double_at, from_place, lines, runs, word_at};
 
 fn integral(answer: Result<f64, Refusal>) -> Numbers {
     answer.map_or_else(refused, |v| [doubles::to_bits(v), 0, 0])
@@ -47,7 +47,7 @@ fn main(rt: HostRuntime) -> io::Result<()> {
         let line: [u8; 136] = lines::read(input)?;
         tally.count(
             word_at(&line, 0),
-            runs::same_answer(&line, 5, answer(&line)),
+            runs::same_answer(from_place(&line, 5), answer(&line)),
         );
         Some(())
     });

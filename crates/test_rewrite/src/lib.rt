@@ -2,20 +2,20 @@
 // changed list on which it reports a difference, and not proved: what is proved of them is that they are safe and end.
 #![tactic(auto)]
 
-ghost use Rattle.std.specs.Prelude.{◌≤◌, length};
-
 use sheet::{FACE_LENGTH, STATION_LENGTH, TRAILER_LENGTH, VERTEX_LENGTH};
 use sheet_readers::TrailerFields;
 
 // What stands past the sheet.
 const MARK: u8 = 0xa5;
 
-// Whether the writer, given what the sheet holds, writes the same bytes and leaves those past them as they were.
-pub fn is_rewritten(sheet: &[u8]) -> bool
-    requires { length sheet.now ≤ 16384 }
-{
+// The longest sheet that is written anew.
+pub const ROOM: usize = 16384;
+
+// Whether the writer, given what the sheet holds, writes the same bytes and leaves those past them as they were. No for a longer sheet than
+// there is room for.
+pub fn is_rewritten(sheet: &[u8]) -> bool {
     let n = sheet.len();
-    if n < TRAILER_LENGTH {
+    if n < TRAILER_LENGTH || ROOM < n {
         return false;
     }
     let t = TrailerFields::read(sheet);
@@ -31,7 +31,7 @@ pub fn is_rewritten(sheet: &[u8]) -> bool
     let mut faces = [0; 2048];
     let mut stations = [0.0; 2048];
     let mut work = [0; 2048];
-    let mut out = [MARK; 16392];
+    let mut out = [MARK; ROOM + 8];
     let verts = &mut verts[..3 * v];
     let faces = &mut faces[..3 * f];
     let stations = &mut stations[..3 * s];

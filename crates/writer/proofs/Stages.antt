@@ -218,6 +218,9 @@ module _ (s : SheetInput) (w o : List ℕ) (ok : lengths_cause s (length w) (len
       pub back-size : length (back y) ≡ length o
       back-size = same_len_mid at (end - at) o y (mated-size ∙ sym lent-size)
 
+      pub sheet_fits : (n : ℕ) → n ≡ sheet_size s → n ≤ length (back y)
+      sheet_fits n m = omega (arith, m, room.1, back-size)
+
       pub stand : (n : ℕ) → n ≡ sheet_size s → MatesStand (length s.vertices) s.faces (take n (back y))
       stand n z = put-stands at end n (4 * length s.faces) o y (omega arith) (omega (arith, mates-fit)) mates-within mated-size ∙ mated
 

@@ -1,5 +1,5 @@
 // What `write_sheet` asks of its arguments before it touches anything: the causes of refusal 1, 2, 12 and 3.
-// Lengths and counts stay numbers side by side: the causes compare them one with another, and they do not belong together before that. A kind stays its number (sheet_rows/src/kinds.rt).
+// Lengths and counts stay numbers side by side: they alone decide the causes, which compare them one with another, and a `Source` would ask for the lists too. A kind stays its number (sheet_rows/src/kinds.rt).
 #![tactic(auto)]
 
 ghost use Rattle.std.specs.Prelude.{◌≡◌, ◌+◌, ◌≤◌};

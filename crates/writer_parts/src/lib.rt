@@ -31,7 +31,8 @@ pub fn put_front(source: &Source, order: &[u32], out: &mut [u8])
 
 // ---- after the rows
 
-// Writes the trailer of v vertices, f faces and n stations from place at on, which is what its pointer holds.
+// Writes the trailer of v vertices, f faces and n stations from place at on, which is what its pointer holds. The counts are arguments beside the source: as u32 they fit
+// by their type; taken from the source's lists, that they fit would be a clause of `put_end`, which asks for none today.
 fn put_trailer(source: &Source, v: u32, f: u32, n: u32, volume: f64, out: &mut [u8], at: usize)
     requires { at + trailer_length ≤ length out.old }
     ensures { let s = source_input source.now in out.new ≡ sets out.old at (joined (trailer_parts s.kind v f n s.magnetisation s.ambient volume at)) }

@@ -49,11 +49,9 @@ fn put_block(
         FieldsAt s.kind b.first b.n s.vertices s.faces s.stations fields → RowsUpTo s at b.first o out.old → BlockPut s at (b.first + b.n) result o out.new }
 {
     let length = sheet_rows::kinds::row_length(source.kind);
-    for j in 0..stations.n {
-        // The station's number and its place in the block are both needed.
+    for (j, field) in fields[..stations.n].iter().enumerate() {
         let i = stations.first + j;
-        let field = fields[j];
-        put_row(source, i as u32, field, out, at + length * i)?;
+        put_row(source, i as u32, *field, out, at + length * i)?;
     }
     Ok(())
 }

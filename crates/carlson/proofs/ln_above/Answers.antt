@@ -1,18 +1,14 @@
 -- `carlson::ln_above` meets its contract. Assumes nothing.
 use mathlib.Core.Path.{◌∙◌}
-use native.Mathlib.Omega.{arith}
 use lib.Dec.{lit≤}
 use Rattle.carlson.specs.Rc.{rc_value}
 use Rattle.carlson.specs.Logarithm.{ln}
-use Rattle.doubles.proofs.Signs.{true→T, in_float_lem}
+use Rattle.doubles.proofs.Signs.{true→T}
 use Rattle.carlson.proofs.LnBits.{positive-number, own-bits-lt, ln-normal, int_bits-lt, int_positive, low_pos, ln_subnormal}
 use Rattle.carlson.proofs.ln_above.Goals as goal
 
 pub float_to_bits-b : goal.float_to_bits-b
 float_to_bits-b c = positive-number c.args.x c.requires
-
-pub int_to_float-b : goal.int_to_float-b
-int_to_float-b c = in_float_lem _ (omega arith)
 
 pub float_to_bits-b-then-b-lt4503599627370496 : goal.float_to_bits-b-then-b-lt4503599627370496
 float_to_bits-b-then-b-lt4503599627370496 c = positive-number _ (int_positive _ (low_pos c.args.x (true→T c.well_formed.0.1) c.requires c.if-b-lt4503599627370496.true) c.if-b-lt4503599627370496.true)

@@ -7,9 +7,6 @@ use Rattle.carlson.proofs.repeat.Goals as goal
 pub loop-init : goal.loop-init
 loop-init g c = record { within = omega arith; made = none; left = λ t h. of_count (omega arith) h }
 
-pub step-s-requires : goal.step-s-requires
-step-s-requires g c = c.requires.steps _ _ c.loop-test.true c.loop.invariant.made
-
 pub returns-then-not-test : goal.returns-then-not-test
 returns-then-not-test g c = c.loop.invariant.left _ (stopped c.test.ensures c.if-not-test.true)
 

@@ -10,12 +10,6 @@ returns-then-is_mesh c =
     let tested = ap is_mesh (sym b.sheet.read.kind) ∙ sym c.is_mesh.ensures in
     c.check_faces.ensures ∙ of_mesh b.sheet.bytes.now b.vertices b.faces (tested ∙ c.if-is_mesh.true)
 
-pub check_prism-requires : goal.check_prism-requires
-check_prism-requires c =
-    let b = c.args.body in
-    let tested = ap is_mesh (sym b.sheet.read.kind) ∙ sym c.is_mesh.ensures in
-    b.corners (tested ∙ c.if-is_mesh.false)
-
 pub returns : goal.returns
 returns c =
     let b = c.args.body in

@@ -20,6 +20,3 @@ pub returns : goal.returns
 returns c =
     same-volume c.args.body.sheet.bytes.now _ (sym c.in_ok-computed.was ∙ c.check_solid.ensures)
     (ap₂ eqb (sym c.volume_bits.ensures) (sym c.to_bits.ensures) ∙ eq-eqb _ _ c.if-volume_bits-to_bits.false)
-
-pub volume_bits-requires : goal.volume_bits-requires
-volume_bits-requires c = c.args.body.sheet.opened.trailer

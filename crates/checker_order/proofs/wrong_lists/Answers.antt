@@ -1,20 +1,26 @@
 -- `checker_order::wrong_lists` meets its contract: the causes in order; paired mates are reverses. Assumes nothing.
-use Rattle.std.proofs.lemmas.Result.{err_from_is_err_and}
-use mathlib.Core.Path.{sym, ◌∙◌}
-use Rattle.checker_order.proofs.Mates.{mates_standing}
-use Rattle.checker_order.proofs.Pairs.{no_wrong_mate}
+use mathlib.Core.Path.{◌≡◌, sym, ap, ◌∙◌}
+use mathlib.Core.List.{List}
+use Prim.Native.Nat.{ℕ, ◌+◌, ◌*◌, ◌-◌}
+use native.Mathlib.Omega.{arith}
+use lib.ListN.{length, take, drop}
+use Rattle.sheet_layout.specs.LittleEndian.{unpack}
+use Rattle.sheet_layout.proofs.Lists.{unpack-part}
+use Rattle.checker_order.specs.Reverses.{mates_of}
+use Rattle.checker_order.proofs.Pairs.{order_alone}
 use Rattle.checker_order.proofs.wrong_lists.Goals as goal
 
-pub returns-in_err-wrong_order : goal.returns-in_err-wrong_order
-returns-in_err-wrong_order c =
-    let p = err_from_is_err_and c.from_residual.result c.from_residual.ensures.1 in
-    rw (p.1, p.2, sym c.wrong_order.ensures ∙ c.in_err-wrong_order.was)
+-- the mates are read from their part of the sheet
+mates_there : (f b : List ℕ) (at : ℕ) → mates_of f (take (at + 4 * length f - at) (drop at b)) ≡ unpack 4 (length f) b at
+mates_there f b at =
+    let e : at + 0 ≡ at = omega arith in
+    unpack-part 4 (length f) (at + 4 * length f - at) b at 0 (omega arith) ∙ ap (unpack 4 (length f) b) e
 
-pub returns-then-paired : goal.returns-then-paired
-returns-then-paired c =
-    let a = c.args in
-    let f = a.faces.now in
-    rw (sym c.wrong_order.ensures ∙ c.in_ok-wrong_order.was, no_wrong_mate f (mates_standing a.sheet.now a.at f) (c.all_paired-paired.ensures c.if-paired.true))
+pub returns-then-all_paired : goal.returns-then-all_paired
+returns-then-all_paired c =
+    let f = c.args.faces.now in
+    rw (← mates_there f c.args.sheet.now c.args.at) (c.wrong_order.ensures ∙ order_alone f _ (c.all_paired.ensures c.if-all_paired.true) _)
 
 pub returns : goal.returns
-returns c = rw (sym c.wrong_order.ensures ∙ c.in_ok-wrong_order.was) c.wrong_mate.ensures
+returns c =
+    rw (sym c.wrong_order-2.ensures ∙ c.in_ok-wrong_order.was, ← mates_there c.args.faces.now c.args.sheet.now c.args.at) c.wrong_mate.ensures

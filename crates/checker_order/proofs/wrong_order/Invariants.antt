@@ -8,4 +8,4 @@ use Rattle.checker_order.proofs.Compare.{Last}
 use Rattle.checker_order.proofs.wrong_order.Given as goal
 
 abbrev pub invariant-loop-i : goal.invariant-loop-i
-invariant-loop-i l = (first_of l.i (λ j. unless (ascends l.faces l.order j) WrongOrder) ≡ Ok tt) × Last l.faces l.order l.i l.last
+invariant-loop-i g l = (first_of l.i (λ j. unless (ascends l.faces l.order j) WrongOrder) ≡ Ok tt) × Last l.faces l.order l.i l.last

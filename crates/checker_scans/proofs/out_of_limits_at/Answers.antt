@@ -1,47 +1,43 @@
--- `checker_scans::out_of_limits_at` meets its contract: the doubles so far are within limits. Assumes nothing.
+-- `checker_scans::out_of_limits_at` meets its contract: the chunks of eight bytes are the doubles. Assumes nothing.
+use Rattle.std.specs.Bool.{MatchBool}
+use Rattle.std.specs.List.{AllWithin, HoldsAt}
+use Rattle.std.proofs.lemmas.Iterator.{cases_from_all, YieldsList-from_slice}
 use mathlib.Core.Path.{◌≡◌, sym, ap, ◌∙◌}
+use mathlib.Core.Bool.{Bool, true, false}
 use mathlib.Core.List.{List}
-use Prim.Native.Nat.{ℕ}
+use Prim.Native.Nat.{ℕ, ◌+◌, ◌*◌, ◌-◌, ◌<◌}
 use native.Mathlib.Omega.{arith}
 use lib.ListN.{length}
+use borrow.Author.Rules.{rules}
+use borrow.Author.Tests.{tests}
 use Rattle.refusals.specs.declared.Refusal.TheVariants.{OutOfLimits}
-use Rattle.sheet_layout.specs.LittleEndian.{unpack, doubles}
-use Rattle.mesh.proofs.Scans.{scan_start, scan_more, scan_stop, scan_end}
-use Rattle.checker_scans.proofs.Read.{double-at}
-use Rattle.mesh.specs.Check.{in_limits, out_of_limits}
+use Rattle.refusals.specs.Causes.{unless}
 use Rattle.doubles.specs.Magnitude.{within_limits}
-use Rattle.sheet_layout.proofs.Lists.{unpack-length}
-use lib.ListN.{length-map}
+use Rattle.mesh.specs.Check.{out_of_limits}
+use Rattle.sheet_layout.specs.LittleEndian.{unpack, doubles}
+use Rattle.checker_scans.proofs.Chunks.{IsChunks, chunks, double_in, all_within, one_outside}
 use Rattle.checker_scans.proofs.out_of_limits_at.Goals as goal
 
-size : (n : ℕ) (b : List ℕ) (at : ℕ) → length (doubles (unpack 8 n b at)) ≡ n
-size n b at = simp (length-map, unpack-length)
+decided : (s : List ℕ) (at n : ℕ) (xs : List (List ℕ)) (r : Bool) → IsChunks s at n xs
+    → MatchBool r (AllWithin (λ b. within_limits (double_in b) ≡ true) xs 0 (length xs)) ((k : ℕ) × (k < length xs) × HoldsAt (λ b. within_limits (double_in b) ≡ false) xs k)
+    → unless r OutOfLimits ≡ out_of_limits (doubles (unpack 8 n s at))
+decided s at n xs true e h = all_within s at n xs e (λ k d l. h k d (omega arith) l)
+decided s at n xs false e h = one_outside s at n xs e h.0 h.1 h.2
 
-pub loop-i-init : goal.loop-i-init
-loop-i-init c =
-    let v = doubles (unpack 8 c.args.n c.args.sheet.now c.args.at) in
-    scan_start c.args.n (in_limits v) (λ i. OutOfLimits)
-
-pub returns-then-not-within_limits : goal.returns-then-not-within_limits
-unfolding out_of_limits
-returns-then-not-within_limits c =
+pub returns-then-all : goal.returns-then-all
+returns-then-all c =
     let a = c.args in
-    let v = doubles (unpack 8 a.n a.sheet.now a.at) in
-    let i = c.loop-i.i in
-    rw (size a.n a.sheet.now a.at) (scan_stop a.n (in_limits v) (λ j. OutOfLimits) i (omega arith) c.loop-i.invariant
-    (ap within_limits (double-at a.sheet.now a.at a.n i (omega arith) ∙ sym c.f64_at.ensures) ∙ sym c.within_limits.ensures ∙ c.if-not-within_limits.true))
-
-pub loop-i-preserved : goal.loop-i-preserved
-loop-i-preserved c =
-    let a = c.args in
-    let v = doubles (unpack 8 a.n a.sheet.now a.at) in
-    let i = c.loop-i.i in
-    scan_more a.n (in_limits v) (λ j. OutOfLimits) i c.loop-i.invariant
-    (ap within_limits (double-at a.sheet.now a.at a.n i (omega arith) ∙ sym c.f64_at.ensures) ∙ sym c.within_limits.ensures ∙ c.if-not-within_limits.false)
+    let xs = c.as_chunks.result.0.now in
+    ap (λ (b : Bool). unless b OutOfLimits) (sym c.if-all.true)
+    ∙ decided a.sheet.now a.at a.n xs c.all.result
+    (chunks a.sheet.now a.at a.n xs (a.at + 8 * a.n - a.at) c.requires (omega arith) c.as_chunks.ensures.front_len c.as_chunks.ensures.front)
+    (cases_from_all _ _ _ (λ b. within_limits (double_in b) ≡ true) (λ b. within_limits (double_in b) ≡ false) c.all.ensures.ran (YieldsList-from_slice xs c.iter.ensures.rest) (λ x q k. search (rules, tests)) (λ x q k. search (rules, tests)))
 
 pub returns : goal.returns
-unfolding out_of_limits
 returns c =
     let a = c.args in
-    let v = doubles (unpack 8 a.n a.sheet.now a.at) in
-    rw (size a.n a.sheet.now a.at) (scan_end a.n (in_limits v) (λ j. OutOfLimits) c.loop-i.i (omega arith) (omega arith) c.loop-i.invariant)
+    let xs = c.as_chunks.result.0.now in
+    ap (λ (b : Bool). unless b OutOfLimits) (sym c.if-all.false)
+    ∙ decided a.sheet.now a.at a.n xs c.all.result
+    (chunks a.sheet.now a.at a.n xs (a.at + 8 * a.n - a.at) c.requires (omega arith) c.as_chunks.ensures.front_len c.as_chunks.ensures.front)
+    (cases_from_all _ _ _ (λ b. within_limits (double_in b) ≡ true) (λ b. within_limits (double_in b) ≡ false) c.all.ensures.ran (YieldsList-from_slice xs c.iter.ensures.rest) (λ x q k. search (rules, tests)) (λ x q k. search (rules, tests)))

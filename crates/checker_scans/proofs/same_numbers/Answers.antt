@@ -2,17 +2,10 @@
 use mathlib.Core.Path.{sym, ◌∙◌}
 use native.Mathlib.Omega.{arith}
 use Rattle.checker_scans.proofs.Compare.{same, other}
-use borrow.Author.Count.{below_more, below_none}
 use Rattle.checker_scans.proofs.same_numbers.Goals as goal
-
-pub loop-i-init : goal.loop-i-init
-loop-i-init c = below_none _
 
 pub returns-then-u64_at-to_bits : goal.returns-then-u64_at-to_bits
 returns-then-u64_at-to_bits c = sym (other c.args.sheet.now c.args.xs.now c.args.at c.loop-i.i (omega arith) (λ e. c.if-u64_at-to_bits.true (c.u64_at.ensures ∙ e ∙ sym c.to_bits.ensures)))
-
-pub loop-i-preserved : goal.loop-i-preserved
-loop-i-preserved c = below_more _ _ c.loop-i.invariant (sym c.u64_at.ensures ∙ c.if-u64_at-to_bits.false ∙ c.to_bits.ensures)
 
 pub returns : goal.returns
 returns c = sym (same c.args.sheet.now c.args.xs.now c.args.at (λ i l. c.loop-i.invariant i (omega arith)))

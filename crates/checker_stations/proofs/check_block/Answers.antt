@@ -1,8 +1,10 @@
 -- `checker_stations::check_block` meets its contract: none of the stations so far is refused. Assumes nothing.
 use Rattle.std.proofs.lemmas.Result.{err_from_is_err_and}
-use mathlib.Core.Path.{◌≡◌, refl, sym, ◌∙◌, subst}
+use mathlib.Core.Path.{◌≡◌, refl, sym, ◌∙◌}
 use Prim.Native.Nat.{ℕ, ◌+◌}
 use native.Mathlib.Omega.{arith}
+use Rattle.std.proofs.Common.{◌<◌, length-take, get_or-take}
+use Rattle.polyhedron_fields.specs.BlockFields.{no_field}
 use Rattle.refusals.specs.Causes.{first_of}
 use Rattle.std.specs.Prelude.{Ok}
 use Rattle.refusals.specs.Causes.{Cause}
@@ -15,32 +17,27 @@ unfolding first_of
 none c = refl
 
 pub loop-j-init : goal.loop-j-init
-loop-j-init c = (omega arith, none _)
+loop-j-init c = none _
 
 pub check_station-requires : goal.check_station-requires
 check_station-requires c =
+    let inside : c.loop-j.j < c.args.block.now.n = omega (arith, length-take c.args.block.now.n c.args.fields) in
     let p = c.requires in
     let e = c.number.ensures in
-    (omega (arith, e, c.loop-j-test.true, p.0), rw e (p.1 c.loop-j.j c.loop-j-test.true))
+    (omega (arith, e, inside, p.0), rw e (get_or-take c.args.block.now.n c.args.fields c.loop-j.j no_field inside ∙ p.1 c.loop-j.j inside))
 
 pub returns-in_err-check_station : goal.returns-in_err-check_station
 returns-in_err-check_station c =
+    let inside : c.loop-j.j < c.args.block.now.n = omega (arith, length-take c.args.block.now.n c.args.fields) in
     let b = c.args.sheet.bytes.now in
     let s = c.args.block.now in
     let told = rw c.number.ensures at (sym c.check_station.ensures ∙ c.in_err-check_station.was) in
     let p = err_from_is_err_and c.from_residual.result c.from_residual.ensures.1 in
-    rw (p.1, p.2) (sym (stop s.n c.loop-j.j (λ i. check_station b (parse b) (s.first + i)) _ c.loop-j-test.true c.loop-j.invariant.1 told))
+    rw (p.1, p.2) (sym (stop s.n c.loop-j.j (λ i. check_station b (parse b) (s.first + i)) _ inside c.loop-j.invariant told))
 
 pub loop-j-preserved : goal.loop-j-preserved
 loop-j-preserved c =
     let b = c.args.sheet.bytes.now in
     let s = c.args.block.now in
     let told = rw c.number.ensures at (sym c.check_station.ensures ∙ c.in_ok-check_station.was) in
-    (omega (arith, c.loop-j-test.true), more c.loop-j.j (λ i. check_station b (parse b) (s.first + i)) c.loop-j.invariant.1 told)
-
-pub returns : goal.returns
-returns c =
-    let b = c.args.sheet.bytes.now in
-    let s = c.args.block.now in
-    let e : c.loop-j.j ≡ s.n = omega arith in
-    sym (subst (λ (k : ℕ). first_of k (λ i. check_station b (parse b) (s.first + i)) ≡ Ok tt) e c.loop-j.invariant.1)
+    more c.loop-j.j (λ i. check_station b (parse b) (s.first + i)) c.loop-j.invariant told

@@ -3,7 +3,6 @@ use Rattle.std.specs.Prelude.{Ok}
 use Rattle.std.proofs.lemmas.Result.{err_from_is_err_and}
 use mathlib.Core.Path.{◌≡◌, sym, ap, ◌∙◌}
 use Prim.Native.Nat.{ℕ}
-use native.Mathlib.Omega.{arith}
 use Rattle.sheet_rows.specs.Row.{in_row, row_cause}
 use Rattle.sheet.specs.Input.{row_at}
 use Rattle.sheet.specs.Checker.{kind_in, parse}
@@ -26,11 +25,6 @@ returns-in_err-row_cause c =
     let caused : row_cause (kind_in a.sheet.bytes.now) a.i (Ok c.in_ok-row.row) ≡ c.row_cause.result = ap (λ (k : ℕ). row_cause k a.i (Ok c.in_ok-row.row)) (sym a.sheet.read.kind) ∙ sym c.row_cause.ensures in
     let p = err_from_is_err_and c.from_residual-in_err-row_cause.result c.from_residual-in_err-row_cause.ensures.1 in
     rw (p.1, p.2) (refused-by a.sheet.bytes.now a.i _ (sym c.in_ok-row.was ∙ computed) _ (caused ∙ c.in_err-row_cause.was))
-
-pub same_row-requires : goal.same_row-requires
-same_row-requires c =
-    let s = c.args.sheet in
-    omega (arith, s.opened.whole, s.read.kind, c.requires.0, c.row_start.ensures)
 
 pub returns-then-same_row : goal.returns-then-same_row
 returns-then-same_row c =

@@ -6,11 +6,9 @@ use native.Mathlib.Omega.{arith}
 use Rattle.refusals.specs.Causes.{first_of}
 use Rattle.std.specs.Prelude.{Ok}
 use Rattle.refusals.specs.Causes.{Cause}
-use Rattle.sheet_rows.specs.BodyWithCenter.{BodyWithCenter}
 use Rattle.sheet.specs.Checker.{stations_in, parse, check_station}
 use Rattle.checker_lists.specs.Stages.{stations_cause}
 use Rattle.checker_stations.proofs.InBlocks.{block_passed, block_refused}
-use Rattle.checker_stations.proofs.Station.{field_is}
 use Rattle.checker_stations.proofs.check_stations.Goals as goal
 
 none : (c : ℕ → Cause) → first_of 0 c ≡ Ok tt
@@ -19,19 +17,6 @@ none c = refl
 
 pub loop-first-init : goal.loop-first-init
 loop-first-init c = (omega arith, none _)
-
-pub fields_at-fields-requires : goal.fields_at-fields-requires
-fields_at-fields-requires c =
-    let b = c.args.body in
-    subst (λ (k : ℕ). BodyWithCenter k c.args.c b.mesh.verts.now b.mesh.faces.now) (sym b.sheet.read.kind) (record { body = λ m. b.mesh.body; center = c.requires; corners = b.corners })
-
-pub check_block-requires : goal.check_block-requires
-check_block-requires c =
-    let b = c.args.body in
-    let s = c.block_of-block.ensures in (
-      omega (arith, s.range, c.min-n.ensures, c.loop-first-test.true, b.sheet.read.stations),
-      λ j l. c.fields_at-fields.ensures.at j l ∙ field_is b.sheet.bytes.now (c.block_of-block.result.first + j) _ _ _ _ b.sheet.read.kind (s.places j l) b.vertices b.faces,
-    )
 
 pub returns-in_err-check_block : goal.returns-in_err-check_block
 unfolding stations_cause
@@ -67,8 +52,3 @@ returns c =
     let b = c.args.body.sheet.bytes.now in
     let e : c.loop-first.first ≡ stations_in b = omega (arith, c.args.body.sheet.read.stations) in
     sym (subst (λ (n : ℕ). first_of n (check_station b (parse b)) ≡ Ok tt) e c.loop-first.invariant.1)
-
-pub block_of-block-requires : goal.block_of-block-requires
-block_of-block-requires c =
-    let within : c.loop-first.first + c.min-n.result ≤ stations_in c.args.body.sheet.bytes.now = omega (arith, c.min-n.ensures, c.loop-first-test.true, c.args.body.sheet.read.stations) in
-    (omega (arith, c.min-n.ensures), within)

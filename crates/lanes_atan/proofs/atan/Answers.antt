@@ -2,12 +2,9 @@
 use lib.Ieee.{nan}
 use lib.ListN.{get_or-replicate}
 use Rattle.doubles.specs.Constants.{1·0}
-use Rattle.lanes.proofs.Filling.{one-filled, all-filled}
+use Rattle.lanes.proofs.Filling.{all-filled}
 use Rattle.lanes_atan.proofs.AtanLaw.{atan_parts}
 use Rattle.lanes_atan.proofs.atan.Goals as goal
-
-pub loop-k-preserved : goal.loop-k-preserved
-loop-k-preserved g c = one-filled c.loop-k.invariant c.loop-k-test.true c.atan_from.ensures
 
 pub returns : goal.returns
 returns g c =

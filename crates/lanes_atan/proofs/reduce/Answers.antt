@@ -3,7 +3,7 @@ use mathlib.Core.Path.{ap, ◌∙◌}
 use lib.Ieee.{Float}
 use Rattle.doubles.specs.Rounded.{◌⊕◌, ◌⊗◌}
 use Rattle.doubles.specs.Constants.{1·0}
-use Rattle.lanes.proofs.Filling.{one-filled, all-filled}
+use Rattle.lanes.proofs.Filling.{one-filled}
 use Rattle.lanes_atan2.proofs.AtanLaw.{reduced-is}
 use Rattle.lanes_atan.proofs.reduce.Goals as goal
 
@@ -13,9 +13,3 @@ loop-k-preserved g c =
     let i = c.loop-k.invariant in
     let e = c.pick-wk.ensures ∙ reduced-is _ _ c.abs.ensures in
     (one-filled i.0 l e, one-filled i.1 l (ap (λ (w : Float). 1·0 ⊕ w ⊗ w) e))
-
-pub returns : goal.returns
-returns g c =
-    let i = c.loop-k.invariant in
-    let l = c.loop-k-test.false in
-    (all-filled i.0 l, all-filled i.1 l)

@@ -1,5 +1,5 @@
 -- `lanes_atan2::one_and_square` meets its contract. Assumes nothing.
-use Prim.Native.Nat.{ℕ, ◌-◌}
+use Prim.Native.Nat.{ℕ}
 use Rattle.doubles.specs.Rounded.{◌⊕◌, ◌⊗◌}
 use Rattle.doubles.specs.Constants.{1·0}
 use Rattle.lanes.specs.Lanes.{lane}
@@ -8,6 +8,3 @@ use Rattle.lanes_atan2.proofs.one_and_square.Given as goal
 
 abbrev pub invariant-loop-k : goal.invariant-loop-k
 invariant-loop-k g l = Filled g.row.N (λ (j : ℕ). 1·0 ⊕ lane l.w j ⊗ lane l.w j) l.initial.y l.k l.y
-
-abbrev pub decreases-loop-k : goal.decreases-loop-k
-decreases-loop-k g l = g.row.N - l.k

@@ -4,7 +4,7 @@ use mathlib.Core.List.{List}
 use lib.Ieee.{Float}
 use lib.ListN.{length}
 use Rattle.lanes.specs.Lanes.{lane}
-use Rattle.lanes.proofs.Filling.{one-filled, all-filled}
+use Rattle.lanes.proofs.Filling.{one-filled}
 use Rattle.lanes_atan2.proofs.AtanLaw.{reduced-within, reduced-is}
 use Rattle.lanes_atan2.proofs.reduce.Goals as goal
 
@@ -15,6 +15,3 @@ returns-then-all_within g c =
 
 pub loop-k-preserved : goal.loop-k-preserved
 loop-k-preserved g c = one-filled c.loop-k.invariant c.loop-k-test.true (c.pick.ensures ∙ reduced-is _ _ c.abs.ensures)
-
-pub returns : goal.returns
-returns g c = all-filled c.loop-k.invariant c.loop-k-test.false

@@ -1,5 +1,5 @@
 -- `lanes_atan2::reduce` meets its contract. Assumes nothing.
-use Prim.Native.Nat.{ℕ, ◌-◌}
+use Prim.Native.Nat.{ℕ}
 use Rattle.lanes.specs.Lanes.{lane}
 use Rattle.lanes_atan2.specs.AtanLanes.{reduced}
 use Rattle.lanes.proofs.Filling.{Filled}
@@ -7,6 +7,3 @@ use Rattle.lanes_atan2.proofs.reduce.Given as goal
 
 abbrev pub invariant-loop-k : goal.invariant-loop-k
 invariant-loop-k g l = Filled g.row.N (λ (j : ℕ). reduced (lane l.z j)) l.initial.w l.k l.w
-
-abbrev pub decreases-loop-k : goal.decreases-loop-k
-decreases-loop-k g l = g.row.N - l.k

@@ -9,7 +9,6 @@ loop-k-preserved g c = one-filled c.loop-k.invariant c.loop-k-test.true refl
 
 pub returns : goal.returns
 returns g c =
-    λ e.
     let w = all-filled c.loop-k.invariant c.loop-k-test.false in
-    let p = c.split-good.ensures in
-    record { size = w.size; at = λ k l. w.at k l ∙ ln_parts _ _ (p.0.at k l) (p.1.at k l) (p.2.at k l) (c.rc.ensures.at k l) ∙ ln-lane _ (p.3 e k l) }
+    let p = c.split.ensures in
+    record { size = w.size; at = λ k l. w.at k l ∙ ln_parts _ _ (p.0.at k l) (p.1.at k l) (p.2.at k l) (c.rc.ensures.at k l) ∙ ln-lane _ (c.all_normal.ensures c.if-not-all_normal.false k l) }

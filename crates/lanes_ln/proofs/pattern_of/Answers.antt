@@ -2,11 +2,7 @@
 use mathlib.Core.Path.{ap}
 use lib.Ieee.{binary64, to_bits}
 use Rattle.lanes_ln.specs.LnLanes.{pattern_of}
-use Rattle.lanes_ln.proofs.LnLaw.{pattern_number}
 use Rattle.lanes_ln.proofs.pattern_of.Goals as goal
-
-pub float_to_bits-result : goal.float_to_bits-result
-float_to_bits-result c = rw c.pick.ensures (pattern_number c.args.x)
 
 pub returns : goal.returns
 unfolding pattern_of

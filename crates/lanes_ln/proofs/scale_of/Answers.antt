@@ -6,13 +6,9 @@ use native.Mathlib.Omega.{arith}
 use lib.Dec.{lit≤}
 use lib.Ieee.{binary64, of_bits, of_int}
 use lib.Ieee.Back.{round_whole}
-use Rattle.doubles.proofs.Signs.{in_float_lem}
 use Rattle.lanes_ln.specs.LnLanes.{half, scale_of}
 use Rattle.lanes_ln.proofs.Whole.{sub-whole}
 use Rattle.lanes_ln.proofs.scale_of.Goals as goal
-
-pub int_to_float-result : goal.int_to_float-result
-int_to_float-result c = in_float_lem _ (omega arith)
 
 pub returns : goal.returns
 unfolding scale_of of_int of_bits

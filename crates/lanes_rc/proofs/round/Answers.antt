@@ -1,8 +1,7 @@
 -- `lanes_rc::round` meets its contract. Assumes nothing.
 use Prim.Native.Nat.{◌<◌}
 use native.Mathlib.Nat.{le_refl}
-use native.Mathlib.Omega.{arith}
-use Rattle.lanes.proofs.Filling.{one-filled, all-filled}
+use Rattle.lanes.proofs.Filling.{one-filled}
 use Rattle.lanes_rc.specs.LaneRounds.{start}
 use Rattle.lanes_rc.proofs.OneLane.{Reads, round_x, round_y, round_a, round_f}
 use Rattle.lanes_rc.proofs.round.Goals as goal
@@ -26,8 +25,3 @@ loop-k-preserved g c =
       one-filled i.2 l (round_a w c.pick-in-loop-k-2.ensures),
       one-filled i.3 l (round_f w c.pick-in-loop-k-3.ensures),
     )
-
-pub returns : goal.returns
-returns g c =
-    let i = c.loop-k.invariant in
-    record { on_x = all-filled i.0 (omega arith); on_y = all-filled i.1 (omega arith); on_a = all-filled i.2 (omega arith); on_f = all-filled i.3 (omega arith) }

@@ -1,6 +1,6 @@
 -- `lanes_rc::rounds` meets its contract. Assumes nothing.
 use native.Mathlib.Omega.{arith}
-use Rattle.lanes_rc.proofs.AllLanes.{none_made, one_made, all_still, all_made}
+use Rattle.lanes_rc.proofs.AllLanes.{none_made, one_made, all_still}
 use Rattle.lanes_rc.proofs.rounds.Goals as goal
 
 pub returns-then-not-any_holds : goal.returns-then-not-any_holds
@@ -14,6 +14,3 @@ returns-then-not-any_holds-2 g c = all_still (one_made c.loop.invariant (omega a
 
 pub loop-preserved : goal.loop-preserved
 loop-preserved g c = one_made c.loop.invariant (omega arith) c.round.ensures
-
-pub returns : goal.returns
-returns g c = all_made c.loop.invariant (omega arith)

@@ -4,11 +4,7 @@ use native.Mathlib.Omega.{arith}
 use lib.ListN.{length}
 use Rattle.std.proofs.lemmas.Result.{err_from_is_err_and}
 use Rattle.mesh_check.proofs.EdgeReturns.{order_fits, edges-refused, edges-accepted}
-use borrow.Author.Rules.{rules}
 use Rattle.mesh_check.proofs.check_edges.Goals as goal
-
-pub order-requires : goal.order-requires
-order-requires c = (c.args.mesh.body.faces, (λ i l. omega (arith, c.args.mesh.body.inside i l, c.requires.0)), search rules, search rules)
 
 pub put_mates-requires : goal.put_mates-requires
 put_mates-requires c =

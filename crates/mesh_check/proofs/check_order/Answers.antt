@@ -1,6 +1,5 @@
 -- `mesh_check::check_order` meets its contract: the causes 5 to 8 in order. Assumes nothing.
 use mathlib.Core.Path.{sym, ◌∙◌}
-use native.Mathlib.Omega.{arith}
 use Rattle.std.proofs.lemmas.Result.{err_from_is_err_and}
 use Rattle.mesh_orders.specs.Order.{order_list}
 use Rattle.mesh.specs.Check.{order_cause}
@@ -14,9 +13,6 @@ returns-in_err-flipped_edge c =
     let e = sym c.flipped_edge.ensures ∙ c.in_err-flipped_edge.was in
     let p = err_from_is_err_and c.from_residual.result c.from_residual.ensures.1 in
     record { value = rw (p.1, p.2) (simp e); holds_mates = λ n. absurd (refused_none _ _ e (no_edge-cause c.args.mesh.verts.now c.args.mesh.faces.now (order_list c.args.mesh.faces.now) n).0) }
-
-pub open_edge-requires : goal.open_edge-requires
-open_edge-requires c = (c.args.mesh.body.faces, c.requires.0, (λ i l. omega (arith, c.args.mesh.body.inside i l, c.requires.1)), c.requires.2)
 
 pub returns-in_err-open_edge : goal.returns-in_err-open_edge
 unfolding order_cause

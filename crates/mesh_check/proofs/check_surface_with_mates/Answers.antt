@@ -2,9 +2,7 @@
 use mathlib.Core.Path.{◌≡◌, sym, ap, ◌∙◌}
 use mathlib.Core.List.{List, ◌++◌}
 use Prim.Native.Nat.{ℕ}
-use native.Mathlib.Omega.{arith}
 use lib.ListN.{length, drop}
-use lib.Seq.{length-take-le}
 use Rattle.std.specs.Prelude.{Ok, Err}
 use Rattle.refusals.specs.Causes.{Cause}
 use Rattle.refusals.specs.Causes.{or_else}
@@ -39,9 +37,6 @@ invariant_of-by_size c =
     let f = c.args.faces.now in
     record { body = is_body v f (length c.args.work.now) c.requires.0 (none-vertex v f (sym c.no_such_vertex.ensures ∙ c.in_ok-no_such_vertex.was)) }
 
-pub by_size-requires : goal.by_size-requires
-by_size-requires c = (length-take-le (length c.args.faces.now) c.args.work.now c.requires.0.room, c.requires.1, c.requires.0.vertices)
-
 pub returns : goal.returns
 unfolding surface_cause
 returns c =
@@ -51,12 +46,3 @@ returns c =
     let w = c.args.work.now in
     let a = c.by_size.ensures in
     let e : surface_cause v f ≡ order_cause v f (order_list f) = ap (λ (d : Cause). or_else d (order_cause v f (order_list f))) named in record { value = a.answer ∙ sym (ap (λ (d : Cause). solid_of d (volume v f)) e); work_after = ap (λ (l : List ℕ). l ++ drop (length f) w) a.work ∙ sym (ap (λ (d : Cause). work_after d f w) e ∙ work-order f w v); mates_after = a.mates ∙ sym (ap (λ (d : Cause). mates_after d f c.args.mates.now) e) }
-
-pub no_such_vertex-requires : goal.no_such_vertex-requires
-no_such_vertex-requires c = omega (arith, c.requires.0.corners, c.requires.0.faces)
-
-pub slice_bounds-by_size-end : goal.slice_bounds-by_size-end
-slice_bounds-by_size-end c = omega (arith, c.requires.0.room)
-
-pub slice_bounds-by_size-end-2 : goal.slice_bounds-by_size-end-2
-slice_bounds-by_size-end-2 c = sym (length-take-le (length c.args.faces.now) c.args.work.now c.requires.0.room)

@@ -23,31 +23,25 @@ returns-in_err-check_surface c =
     let p = err_from_is_err_and c.from_residual-in_err-check_surface.result c.from_residual-in_err-check_surface.ensures.1 in
     record { result_value = rw (p.1, p.2) whole.0; work_after = whole.1 }
 
-pub slice_bounds-single_point-end : goal.slice_bounds-single_point-end
-slice_bounds-single_point-end c =
+pub slice_bounds-order-end : goal.slice_bounds-order-end
+slice_bounds-order-end c =
     let k = c.check_surface in
     (success c.args.station c.args.verts.now c.args.faces.now c.args.work.now (sym c.given_cause.ensures ∙ c.in_ok-given_cause.was)
     k.new.work k.ensures.work_after _ (sym k.ensures.value ∙ c.in_ok-check_surface.was)).room
 
-pub slice_bounds-single_point-end-2 : goal.slice_bounds-single_point-end-2
-slice_bounds-single_point-end-2 c =
+pub slice_bounds-order-end-2 : goal.slice_bounds-order-end-2
+slice_bounds-order-end-2 c =
     let k = c.check_surface in
     sym (ap length (success c.args.station c.args.verts.now c.args.faces.now c.args.work.now (sym c.given_cause.ensures ∙ c.in_ok-given_cause.was)
     k.new.work k.ensures.work_after _ (sym k.ensures.value ∙ c.in_ok-check_surface.was)).front ∙ order-length c.args.faces.now)
 
-pub invariant_of-single_point : goal.invariant_of-single_point
-invariant_of-single_point c =
+pub invariant_of-ordered : goal.invariant_of-ordered
+invariant_of-ordered c =
     let k = c.check_surface in
-    record {
-      body = (success c.args.station c.args.verts.now c.args.faces.now c.args.work.now (sym c.given_cause.ensures ∙ c.in_ok-given_cause.was)
-          k.new.work k.ensures.work_after _ (sym k.ensures.value ∙ c.in_ok-check_surface.was)).body;
-    }
-
-pub single_point-requires : goal.single_point-requires
-single_point-requires c =
-    let k = c.check_surface in
-    (success c.args.station c.args.verts.now c.args.faces.now c.args.work.now (sym c.given_cause.ensures ∙ c.in_ok-given_cause.was)
-    k.new.work k.ensures.work_after _ (sym k.ensures.value ∙ c.in_ok-check_surface.was)).front
+    let accepted : Success c.args.station c.args.verts.now c.args.faces.now c.args.work.now k.new.work =
+    success c.args.station c.args.verts.now c.args.faces.now c.args.work.now (sym c.given_cause.ensures ∙ c.in_ok-given_cause.was)
+    k.new.work k.ensures.work_after _ (sym k.ensures.value ∙ c.in_ok-check_surface.was) in
+    record { body = accepted.body; sorted = accepted.front }
 
 pub returns : goal.returns
 returns c =

@@ -1,14 +1,9 @@
 -- `polyhedron_eight_faces::add_face` meets its contract. Assumes nothing.
-use mathlib.Core.Path.{sym, ap₂, ◌∙◌}
 use Prim.Native.Nat.{◌+◌}
 use native.Mathlib.Omega.{arith}
-use Rattle.polyhedron_edge_terms.specs.EdgeTerms.{dyad}
 use Rattle.polyhedron_eight_faces.specs.EightFaces.{add_face_at}
 use Rattle.polyhedron_eight_faces.proofs.Adding.{side_dyad_lem}
 use Rattle.polyhedron_eight_faces.proofs.add_face.Goals as goal
-
-pub add_face_dyad-face-requires : goal.add_face_dyad-face-requires
-add_face_dyad-face-requires c = c.requires.dyads.of_face c.args.k c.requires.k_bound ∙ sym (ap₂ dyad c.at-n.ensures c.at-n.ensures)
 
 pub add_side-ab-requires : goal.add_side-ab-requires
 add_side-ab-requires c =
@@ -37,9 +32,3 @@ returns c =
       c.at.ensures,
       c.at-n.ensures,
     )
-
-pub overflow_add-k : goal.overflow_add-k
-overflow_add-k c = omega (arith, c.requires.k_bound)
-
-pub overflow_add-k-2 : goal.overflow_add-k-2
-overflow_add-k-2 c = omega (arith, c.requires.k_bound)

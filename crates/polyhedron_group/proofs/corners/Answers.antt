@@ -2,15 +2,9 @@
 use Prim.Native.Nat.{◌%◌, ◌<◌}
 use native.Mathlib.Omega.{arith}
 use Rattle.mesh.specs.Surface.{face_count}
-use Rattle.polyhedron_faces.proofs.FillingVectors.{all-written, no_vectors, one-vector}
+use Rattle.polyhedron_faces.proofs.FillingVectors.{one-vector}
 use Rattle.polyhedron_group.proofs.Places.{face-below}
 use Rattle.polyhedron_group.proofs.corners.Goals as goal
-
-pub loop-i-init : goal.loop-i-init
-loop-i-init c = no_vectors
-
-pub face_in-f-requires : goal.face_in-f-requires
-face_in-f-requires c = rw c.face_count-n.ensures (c.requires, omega (arith, c.args.mesh.body.faces.few), omega arith)
 
 pub corner-v-requires : goal.corner-v-requires
 corner-v-requires c =
@@ -21,6 +15,3 @@ corner-v-requires c =
 
 pub loop-i-preserved : goal.loop-i-preserved
 loop-i-preserved c = let e = c.set.ensures in rw e.written (one-vector c.loop-i.invariant (omega arith) (rw e.written at e.whole) (rw (c.corner-v.ensures, c.face_in-f.ensures, c.face_count-n.ensures)))
-
-pub returns : goal.returns
-returns c = all-written c.loop-i.invariant (omega arith) (omega arith)

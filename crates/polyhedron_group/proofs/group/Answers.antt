@@ -1,15 +1,8 @@
 -- `polyhedron_group::group` meets its contract. Assumes nothing.
-use native.Mathlib.Omega.{arith}
 use Rattle.polyhedron_group.specs.Group.{raw_normal}
 use Rattle.polyhedron_group.proofs.Describing.{describes}
 use Rattle.polyhedron_faces.proofs.SidesMade.{units}
 use Rattle.polyhedron_group.proofs.group.Goals as goal
-
-pub corners-requires : goal.corners-requires
-corners-requires c = omega (arith, c.args.range.within, c.if-range-lt-FEWEST.false)
-
-pub returns-then-range-lt-FEWEST : goal.returns-then-range-lt-FEWEST
-returns-then-range-lt-FEWEST c = λ l. absurd (omega (arith, l, c.if-range-lt-FEWEST.true))
 
 pub returns : goal.returns
 returns c =

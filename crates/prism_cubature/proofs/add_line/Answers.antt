@@ -1,19 +1,30 @@
 -- `prism_cubature::add_line` meets its contract. Assumes nothing.
-use mathlib.Core.Path.{◌≡◌}
+use mathlib.Core.Path.{◌≡◌, refl}
+use mathlib.Core.Logic.{inl, inr, ⊎_elim}
 use native.Mathlib.Omega.{arith}
+use lib.ListN.{length-append, take}
 use Rattle.newtonian.specs.Fold.{fold-none, fold_more}
+use Rattle.prism_cubature.proofs.Given.{no-node, one-node}
 use Rattle.prism_cubature.proofs.add_line.Goals as goal
 
-pub loop-k-init : goal.loop-k-init
-loop-k-init c = (omega arith, rw fold-none)
+pub loop-node-init : goal.loop-node-init
+loop-node-init c = (record { upto = omega arith; nodes = refl; weights = refl }, rw fold-none)
 
-pub loop-k-preserved : goal.loop-k-preserved
-loop-k-preserved c =
-    let k = c.loop-k.k in
-    let h = c.loop-k-test.true in
-    (omega (arith, h), rw fold_more (simp (c.add_point-sums.ensures, c.point_weight.ensures, c.offset-z.ensures, c.half_widths-h.ensures, c.requires.nodes k h, c.requires.weights k h, c.loop-k.invariant.1)))
+pub loop-node-preserved : goal.loop-node-preserved
+loop-node-preserved c =
+    let i = c.loop-node.invariant in
+    let s = c.in-Some.ensures.steps in
+    let r = c.requires in
+    let e : c.into_iter-node-iterator.result.a.rest.now ≡ take c.args.rule.now.count c.args.rule.now.nodes = rw (c.into_iter-node-iterator.ensures.into_iter_gives, c.zip-node-items.ensures.first) c.iter.ensures.rest in
+    let f : c.into_iter-node-iterator.result.b.rest.now ≡ take c.args.rule.now.count c.args.rule.now.weights = rw c.into_iter-node-iterator.ensures.into_iter_gives c.zip-node-items.ensures.second.0 in
+    let n = one-node r (omega (arith, r.small)) (omega (arith, r.small)) e f (rw (s.0, s.1) at i.0) in
+    rw (length-append c.loop-node.yielded) (n.2, rw fold_more (simp (c.add_point-sums.ensures, c.point_weight.ensures, c.offset-z.ensures, c.half_widths-h.ensures, n.0, n.1, i.1)))
 
 pub returns : goal.returns
 returns c =
-    let e : c.loop-k.k ≡ c.args.rule.now.count = omega (arith, c.loop-k.invariant.0, c.loop-k-test.false) in
-    rw e at c.loop-k.invariant.1
+    let i = c.loop-node.invariant in
+    let r = c.requires in
+    let e : c.into_iter-node-iterator.result.a.rest.now ≡ take c.args.rule.now.count c.args.rule.now.nodes = rw (c.into_iter-node-iterator.ensures.into_iter_gives, c.zip-node-items.ensures.first) c.iter.ensures.rest in
+    let f : c.into_iter-node-iterator.result.b.rest.now ≡ take c.args.rule.now.count c.args.rule.now.weights = rw c.into_iter-node-iterator.ensures.into_iter_gives c.zip-node-items.ensures.second.0 in
+    let k = no-node r (omega (arith, r.small)) (omega (arith, r.small)) e f i.0 (⊎_elim (λ z. inl z.1.0) (λ z. inr z.1.0) c.in-None.ensures.steps) in
+    rw k at i.1

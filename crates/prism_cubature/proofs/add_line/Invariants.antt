@@ -1,9 +1,12 @@
 -- `prism_cubature::add_line` meets its contract. Assumes nothing.
 use mathlib.Core.Path.{◌≡◌}
-use Prim.Native.Nat.{◌≤◌}
+use lib.ListN.{length}
 use Rattle.newtonian.specs.Fold.{Fold}
 use Rattle.prism_cubature.specs.Cubature.{point}
+use Rattle.prism_cubature.proofs.Given.{Passed}
 use Rattle.prism_cubature.proofs.add_line.Given as goal
 
-abbrev pub invariant-loop-k : goal.invariant-loop-k
-invariant-loop-k l = (l.k ≤ l.rule.count) × (l.sums ≡ Fold l.k (point l.p l.bounds.lo l.bounds.hi l.rule.count l.w l.x l.y) l.initial.sums)
+abbrev pub invariant-loop-node : goal.invariant-loop-node
+invariant-loop-node l =
+    Passed l.initial.node-iterator.a.rest.now l.initial.node-iterator.b.rest.now (length l.yielded) l.node-iterator.a.rest.now l.node-iterator.b.rest.now
+    × (l.sums ≡ Fold (length l.yielded) (point l.p l.bounds.lo l.bounds.hi l.rule.count l.w l.x l.y) l.initial.sums)

@@ -4,4 +4,4 @@ use Rattle.profile.proofs.checked_profile.Goals as goal
 
 pub returns : goal.returns
 unfolding polyhedron_at
-returns c = rw (c.of.ensures.1, c.of.ensures.0) at c.profile_fields.ensures
+returns c = rw (c.of.ensures.1, c.of.ensures.0, c.mesh.ensures.0, c.mesh.ensures.1) at c.profile_fields.ensures

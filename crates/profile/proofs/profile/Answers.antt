@@ -25,28 +25,27 @@ returns-in_err-check_surface c =
     let p = err_from_is_err_and c.from_residual-in_err-check_surface.result c.from_residual-in_err-check_surface.ensures.1 in
     record { value = rw (p.1, p.2) whole.0; work = whole.1.0; fields = whole.1.1 }
 
-pub slice_bounds-checked_profile-end : goal.slice_bounds-checked_profile-end
-slice_bounds-checked_profile-end c =
+pub slice_bounds-order-end : goal.slice_bounds-order-end
+slice_bounds-order-end c =
     let s = c.args in
     let k = c.check_surface in
     (success s.verts.now s.faces.now s.stations.now s.work.now s.fields.now (sym c.in_ok-given_cause.ensures)
     k.new.work k.ensures.work_after _ (sym c.in_ok-check_surface.ensures.value)).room
 
-pub slice_bounds-checked_profile-end-2 : goal.slice_bounds-checked_profile-end-2
-slice_bounds-checked_profile-end-2 c =
+pub slice_bounds-order-end-2 : goal.slice_bounds-order-end-2
+slice_bounds-order-end-2 c =
     let s = c.args in
     let k = c.check_surface in
     sym (ap length (success s.verts.now s.faces.now s.stations.now s.work.now s.fields.now (sym c.in_ok-given_cause.ensures)
     k.new.work k.ensures.work_after _ (sym c.in_ok-check_surface.ensures.value)).front ∙ order-length s.faces.now)
 
-pub invariant_of-checked_profile : goal.invariant_of-checked_profile
-invariant_of-checked_profile c =
+pub invariant_of-ordered : goal.invariant_of-ordered
+invariant_of-ordered c =
     let s = c.args in
     let k = c.check_surface in
-    record {
-      body = (success s.verts.now s.faces.now s.stations.now s.work.now s.fields.now (sym c.in_ok-given_cause.ensures)
-          k.new.work k.ensures.work_after _ (sym c.in_ok-check_surface.ensures.value)).body;
-    }
+    let e = success s.verts.now s.faces.now s.stations.now s.work.now s.fields.now (sym c.in_ok-given_cause.ensures)
+    k.new.work k.ensures.work_after _ (sym c.in_ok-check_surface.ensures.value) in
+    record { body = e.body; sorted = e.front }
 
 pub checked_profile-requires : goal.checked_profile-requires
 checked_profile-requires c =
@@ -54,7 +53,7 @@ checked_profile-requires c =
     let k = c.check_surface in
     let e = success s.verts.now s.faces.now s.stations.now s.work.now s.fields.now (sym c.in_ok-given_cause.ensures)
     k.new.work k.ensures.work_after _ (sym c.in_ok-check_surface.ensures.value) in
-    (e.front, e.few, e.space)
+    (e.few, e.space)
 
 pub returns : goal.returns
 returns c =

@@ -9,5 +9,5 @@ use Rattle.profile_records.proofs.store.Given as goal
 abbrev pub invariant-loop-j : goal.invariant-loop-j
 invariant-loop-j l =
     (length l.fields ≡ length l.initial.fields)
-    × ((a : ℕ → Answer Newtonian) (o : List Float) → ((i : ℕ) → i < l.n → a (l.first + i) ≡ get_or l.fn.answers i no_field)
+    × ((a : ℕ → Answer Newtonian) (o : List Float) → ((i : ℕ) → i < length l.answers → a (l.first + i) ≡ get_or l.answers i no_field)
     → Written a l.first o l.initial.fields → Written a (l.first + l.j) o l.fields)

@@ -1,3 +1,4 @@
+-- The word stands at its place, and the rest as it was.
 use Rattle.std.proofs.Common.{arith}
 use Rattle.recheck_line.proofs.Text.{part-written}
 use Rattle.recheck_line.proofs.put.Goals as goal

@@ -1,3 +1,4 @@
+-- The line of the bytes that were read, or of a read that failed, as `input_line` tells them apart.
 use Rattle.recheck_line.specs.Line.{input_line}
 use Rattle.recheck_line.proofs.recheck_line.Goals as goal
 

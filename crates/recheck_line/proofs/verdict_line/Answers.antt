@@ -1,3 +1,4 @@
+-- The line of an accepted sheet and of a refused one, as `answer_line` tells them apart.
 use Rattle.recheck_line.specs.Line.{answer_line}
 use Rattle.recheck_line.proofs.verdict_line.Goals as goal
 

@@ -1,8 +1,6 @@
 -- `sheet_body::check_body` meets its contract: the causes 4 to 8 of a mesh, or 9 of a prism. Assumes nothing.
 use mathlib.Core.Path.{◌≡◌, sym, ◌∙◌}
 use mathlib.Core.Bool.{false}
-use mathlib.Core.Logic.{inr}
-use native.Mathlib.Omega.{arith}
 use Rattle.sheet_rows.specs.Kinds.{is_mesh}
 use Rattle.sheet.specs.Input.{source_input}
 use Rattle.sheet_body.proofs.Bodies.{mesh_checked, prism_checked}
@@ -17,11 +15,3 @@ pub returns : goal.returns
 returns c =
     let no-mesh : is_mesh c.args.source.now.kind ≡ false = sym c.is_mesh.ensures ∙ c.if-is_mesh.false in
     prism_checked (source_input c.args.source.now) no-mesh (c.requires.1 no-mesh).1 c.args.work.now c.args.mates.now c.requires.2 c.check_prism.ensures
-
-pub check_surface_with_mates-requires : goal.check_surface_with_mates-requires
-check_surface_with_mates-requires c = let h = c.requires in (h.0, inr h.2)
-
-pub check_prism-requires : goal.check_prism-requires
-check_prism-requires c =
-    let no-mesh : is_mesh c.args.source.now.kind ≡ false = sym c.is_mesh.ensures ∙ c.if-is_mesh.false in
-    omega (arith, (c.requires.1 no-mesh).0)

@@ -22,9 +22,3 @@ returns-then-is_mesh c =
 pub returns : goal.returns
 unfolding center_of
 returns c = rw (sym c.is_mesh.ensures ∙ c.if-is_mesh.false)
-
-pub invariant_of-of : goal.invariant_of-of
-invariant_of-of c = record { body = (c.requires (sym c.is_mesh.ensures ∙ c.if-is_mesh.true)).0 }
-
-pub of-requires : goal.of-requires
-of-requires c = (c.requires (sym c.is_mesh.ensures ∙ c.if-is_mesh.true)).1

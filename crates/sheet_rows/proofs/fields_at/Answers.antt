@@ -29,13 +29,3 @@ unfolding field_at
 returns c =
     let prism : is_mesh c.args.kind ≡ false = sym c.is_mesh.ensures ∙ c.if-is_mesh.false in
     record { at = λ j l. c.prism_fields.ensures j l ∙ simp prism }
-
-pub invariant_of-fields_of : goal.invariant_of-fields_of
-invariant_of-fields_of c =
-    let mesh : is_mesh c.args.kind ≡ true = sym c.is_mesh.ensures ∙ c.if-is_mesh.true in
-    record { body = c.requires.body mesh }
-
-pub prism_fields-requires : goal.prism_fields-requires
-prism_fields-requires c =
-    let prism : is_mesh c.args.kind ≡ false = sym c.is_mesh.ensures ∙ c.if-is_mesh.false in
-    c.requires.corners prism

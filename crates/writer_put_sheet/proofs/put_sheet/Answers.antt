@@ -7,11 +7,6 @@ use Rattle.writer_rows.proofs.RowLaws.{none-refused}
 use Rattle.writer_put_sheet.proofs.Pieces.{put-together}
 use Rattle.writer_put_sheet.proofs.put_sheet.Goals as goal
 
-pub put_rows-cause-requires : goal.put_rows-cause-requires
-put_rows-cause-requires c =
-    let h = c.requires.0 in
-    (record { body = h.body; center = c.center_of-c.ensures; corners = h.corners }, h.stations, omega arith)
-
 pub returns : goal.returns
 returns c =
     let input : SheetInput = source_input c.args.source.now in
@@ -22,6 +17,3 @@ returns c =
       cause = put.cause;
       bytes = put-together input a.order.now a.volume a.out.now c.requires.0 same_size c.put_front.ensures c.put_rows-cause.result put.cause (none-refused input _ put) c.put_end.ensures;
     }
-
-pub put_front-requires : goal.put_front-requires
-put_front-requires c = let h = c.requires in (h.0.order, omega (arith, h.0.room, h.0.coordinates, h.0.faces.triples, h.0.triples), h.1)

@@ -12,4 +12,4 @@ abbrev pub invariant-loop-j : goal.invariant-loop-j
 invariant-loop-j l =
     let s = source_input l.source in
     (l.length ≡ 8 * row_width s.kind) × (length l.out ≡ length l.initial.out)
-    × ((o : List ℕ) → FieldsAt s.kind l.stations.first l.stations.n s.vertices s.faces s.stations l.fields → RowsUpTo s l.at l.stations.first o l.initial.out → RowsUpTo s l.at (l.stations.first + l.j) o l.out)
+    × ((o : List ℕ) → FieldsAt s.kind l.stations.first l.stations.n s.vertices s.faces s.stations l.fn.fields → RowsUpTo s l.at l.stations.first o l.initial.out → RowsUpTo s l.at (l.stations.first + l.j) o l.out)

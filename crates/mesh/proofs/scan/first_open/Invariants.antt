@@ -6,4 +6,4 @@ use Rattle.mesh.specs.Check.{reverse_occurs, open_at}
 use Rattle.mesh.proofs.scan.first_open.Given as goal
 
 abbrev pub invariant-loop-i : goal.invariant-loop-i
-invariant-loop-i l = first_of l.i (λ j. unless (reverse_occurs l.faces l.order j) (open_at l.faces l.order j)) ≡ Ok tt
+invariant-loop-i l = first_of l.i (λ j. unless (reverse_occurs l.ordered.faces.now l.ordered.order.now j) (open_at l.ordered.faces.now l.ordered.order.now j)) ≡ Ok tt

@@ -1,5 +1,4 @@
 -- `mesh::scan::no_such_vertex` meets its contract: the corners so far name vertices. Assumes nothing.
-use mathlib.Core.Path.{sym}
 use Prim.Native.Nat.{◌/◌}
 use native.Mathlib.Omega.{arith}
 use lib.ListN.{length}
@@ -8,9 +7,6 @@ use Rattle.refusals.specs.declared.Refusal.TheVariants.{NoSuchVertex}
 use Rattle.mesh.specs.Check.{names_vertex, no_such_vertex}
 use Rattle.mesh.proofs.Scans.{scan_start, scan_more, scan_stop, scan_end}
 use Rattle.mesh.proofs.scan.no_such_vertex.Goals as goal
-
-pub returns-then-all_name_vertices : goal.returns-then-all_name_vertices
-returns-then-all_name_vertices c = sym (c.all_name_vertices.ensures c.if-all_name_vertices.true)
 
 pub loop-i-init : goal.loop-i-init
 loop-i-init c =

@@ -16,32 +16,30 @@ use Rattle.mesh.proofs.scan.open_edge.Goals as goal
 
 pub pass-requires : goal.pass-requires
 pass-requires c =
-    let uses : Uses c.args.faces.now c.args.order.now = subst (Uses c.args.faces.now) (sym c.requires.1) (order-uses c.args.faces.now c.requires.0) in
-    let size : length c.args.order.now ≡ length c.args.faces.now = ap length c.requires.1 ∙ order-length c.args.faces.now in
+    let uses : Uses c.args.ordered.faces.now c.args.ordered.order.now = subst (Uses c.args.ordered.faces.now) (sym c.args.ordered.sorted) (order-uses c.args.ordered.faces.now c.args.ordered.few) in
+    let size : length c.args.ordered.order.now ≡ length c.args.ordered.faces.now = ap length c.args.ordered.sorted ∙ order-length c.args.ordered.faces.now in
     record {
       keys = record {
-        few = omega (arith, size, c.requires.0.few);
+        few = omega (arith, size, c.args.ordered.few.few);
         callable = λ i l. let n = uses.below i l in search rules;
-        key = endpoint true c.args.faces.now;
+        key = endpoint true c.args.ordered.faces.now;
         gives = λ u r p. search rules;
-        inside = λ i l. small-endpoint c.args.faces.now _ c.requires.2 (omega (arith, size)) true _;
+        inside = λ i l. small-endpoint c.args.ordered.faces.now _ c.requires.0 (omega (arith, size)) true _;
       };
-      room = c.requires.3 ∙ sym size;
+      room = c.requires.1 ∙ sym size;
     }
 
 pub first_open-requires : goal.first_open-requires
 first_open-requires c =
-    let uses : Uses c.args.faces.now c.args.order.now = subst (Uses c.args.faces.now) (sym c.requires.1) (order-uses c.args.faces.now c.requires.0) in
-    let size : length c.args.order.now ≡ length c.args.faces.now = ap length c.requires.1 ∙ order-length c.args.faces.now in
-    let f = c.args.faces.now in
-    let p : Placed (endpoint true f) c.args.order.now c.pass.new.out = c.pass.ensures (endpoint true f) (λ u r q. search rules) in (
-      c.requires.0,
-      c.requires.1,
-      record { faces = c.requires.0; below = placed_below (endpoint true f) c.args.order.now c.pass.new.out p (length f) uses.below },
+    let uses : Uses c.args.ordered.faces.now c.args.ordered.order.now = subst (Uses c.args.ordered.faces.now) (sym c.args.ordered.sorted) (order-uses c.args.ordered.faces.now c.args.ordered.few) in
+    let size : length c.args.ordered.order.now ≡ length c.args.ordered.faces.now = ap length c.args.ordered.sorted ∙ order-length c.args.ordered.faces.now in
+    let f = c.args.ordered.faces.now in
+    let p : Placed (endpoint true f) c.args.ordered.order.now c.pass.new.out = c.pass.ensures (endpoint true f) (λ u r q. search rules) in (
+      record { faces = c.args.ordered.few; below = placed_below (endpoint true f) c.args.ordered.order.now c.pass.new.out p (length f) uses.below },
       p.size ∙ size,
     )
 
 pub returns-clause-placed : goal.returns-clause-placed
 returns-clause-placed c =
-    let f = c.args.faces.now in
-    subst (λ (l : List ℕ). Placed (endpoint true f) l c.pass.new.out) c.requires.1 (c.pass.ensures (endpoint true f) (λ u r q. search rules))
+    let f = c.args.ordered.faces.now in
+    subst (λ (l : List ℕ). Placed (endpoint true f) l c.pass.new.out) c.args.ordered.sorted (c.pass.ensures (endpoint true f) (λ u r q. search rules))

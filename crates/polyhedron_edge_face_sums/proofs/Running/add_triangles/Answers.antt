@@ -13,6 +13,3 @@ loop-k-preserved c =
     let next : l.k + 1 - c.args.range.first ≡ (l.k - c.args.range.first) + 1 = omega arith in
     let face : c.args.range.first + (l.k - c.args.range.first) ≡ l.k = omega arith in
     λ s h. rw (next, fold_more, face) (simp c.triangle_of.ensures at (c.add_triangle.ensures _ (l.invariant s h)))
-
-pub returns : goal.returns
-returns c = let e : c.loop-k.k - c.args.range.first ≡ c.args.range.n = omega arith in rw e at c.loop-k.invariant

@@ -1,19 +1,6 @@
 -- `polyhedron_far_lanes::EightFields::add_three` meets its contract. Assumes nothing.
-use native.Mathlib.Omega.{arith}
-use Rattle.polyhedron_far_lanes.proofs.Threes.{rows-kept, three_added}
+use Rattle.polyhedron_far_lanes.proofs.Threes.{three_added}
 use Rattle.polyhedron_far_lanes.proofs.EightFields.add_three.Goals as goal
-
-pub add_point-requires : goal.add_point-requires
-add_point-requires c = record { o_bound = omega arith; squares = (rows-kept {q = c.squares-2.new.q} 0 16 (rows-kept 0 8 c.squares.ensures.squares c.squares-2.ensures.kept (omega arith)) c.squares-3.ensures.kept (omega arith), c.roots.ensures) }
-
-pub overflow_add-n-3 : goal.overflow_add-n-3
-overflow_add-n-3 c = omega (arith, c.requires)
-
-pub add_point-requires-2 : goal.add_point-requires-2
-add_point-requires-2 c = record { o_bound = omega arith; squares = (rows-kept 8 16 c.squares-2.ensures.squares c.squares-3.ensures.kept (omega arith), c.roots.ensures) }
-
-pub overflow_add-n-4 : goal.overflow_add-n-4
-overflow_add-n-4 c = omega (arith, c.requires)
 
 pub returns : goal.returns
 returns c =

@@ -7,13 +7,7 @@ use Rattle.doubles.specs.Rounded.{◌⊗◌}
 use Rattle.lanes.specs.Lanes.{lane}
 use Rattle.polyhedron_tetrahedra.specs.Mapped.{points}
 use Rattle.polyhedron_far_points.proofs.Pointed.{one-point, point-is, so_many, weight_is}
-use borrow.Author.Rules.{rules}
 use Rattle.polyhedron_far_points.proofs.Points.fill_line.Goals as goal
-
-pub loop-t-init : goal.loop-t-init
-loop-t-init c =
-    let m = c.args.m in
-    (search rules, so_many (6 * m) (6 * m + 0) (omega arith) c.requires.1)
 
 pub loop-t-preserved : goal.loop-t-preserved
 loop-t-preserved c =
@@ -29,9 +23,3 @@ loop-t-preserved c =
     (ap (λ (q : Float). q ⊗ lane c.args.rule.now.weights t) c.line_weight-c.ensures
     ∙ weight_is c.args.a c.args.s c.args.rule.now.nodes c.args.rule.now.weights m t lm lt en ew) in
     (omega (arith, lt), so_many (6 * m + t + 1) (6 * m + (t + 1)) (omega arith) f)
-
-pub returns : goal.returns
-returns c =
-    let l = c.loop-t in
-    let m = c.args.m in
-    so_many (6 * m + l.t) (6 * m + 6) (omega arith) l.invariant.1

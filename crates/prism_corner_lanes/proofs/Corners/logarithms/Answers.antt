@@ -9,7 +9,6 @@ loop-k-preserved c = one-filled c.loop-k.invariant c.loop-k-test.true c.pick.ens
 
 pub returns : goal.returns
 returns c =
-    λ e.
     let o = all-filled c.loop-k.invariant c.loop-k-test.false in
     let a = c.arguments.ensures in
-    record { size = o.size; at = λ k h. o.at k h ∙ logarithm-from _ _ _ _ _ _ ((c.ln-good.ensures e).at k h) (a.at k h) }
+    record { size = o.size; at = λ k h. o.at k h ∙ logarithm-from _ _ _ _ _ _ (c.in_ok-w.ensures.at k h) (a.at k h) }
