@@ -5,7 +5,7 @@
 ghost use Rattle.std.specs.Prelude.{◌≡◌};
 ghost use Rattle.std.specs.Iterator.{YieldsFirstRef, item_count};
 ghost use Rattle.sheet.specs.Checker.{row_part};
-ghost use Rattle.sheet_handle.specs.RowAfterRow.{row_count, next_row_of, rows_from};
+ghost use Rattle.sheet_handle.specs.RowAfterRow.{row_count, next_row_of, part_after, rows_from};
 
 use sheet_readers::Sheet;
 
@@ -78,9 +78,25 @@ pub fn next<'a>(h: Rows<'a>) -> Rows<'a>
     Rows { sheet: h.sheet, at }
 }
 
-// Row n, for callers that hold no handle. Nothing past the last, or where 16, 1 or 2 refuses.
+// The row at which the handle stands after n moves from the first. Move by move, and not by the iterator's `nth`, whose every move opens the sheet twice, for the count and for
+// the row that it passes over, where a move opens it once.
+fn row_after(sheet: &[u8], n: usize) -> &[u8]
+    ensures { result.now ≡ part_after sheet.now n }
+{
+    let mut h = new(sheet);
+    for _i in 0..n {
+        h = next(h);
+    }
+    row(h)
+}
+
+// Row n, by n moves of the handle: for callers that hold no handle. Nothing past the last, or where
+// 16, 1 or 2 refuses.
 pub fn nth_row(sheet: &[u8], n: usize) -> &[u8]
     ensures { result.now ≡ row_part sheet.now n }
 {
-    new(sheet).nth(n).unwrap_or(&sheet[0..0])
+    if row_count(sheet) <= n {
+        return &sheet[0..0];
+    }
+    row_after(sheet, n)
 }
