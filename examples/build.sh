@@ -10,7 +10,7 @@ if [ ! -e $library ]; then
     exit 1
 fi
 mkdir -p $out
-for name in check_sheet body_sheet make_sheets; do
+for name in check_sheet body_sheet make_sheets read_obj; do
     cc -std=c99 $flags -o $out/$name examples/$name.c $library
 done
 cc -shared -o $out/libphysica.so -Wl,--whole-archive $library -Wl,--no-whole-archive

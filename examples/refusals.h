@@ -11,7 +11,7 @@
 static const char *const SENTENCES[] = {
     [PHYSICA_MALFORMED] = "the kind is not 1 or 2, or a prism has other than two corners, or a list's length is no multiple of 3",
     [PHYSICA_TOO_MANY] = "too many vertices (20,000), faces (32,768) or stations (65,536)",
-    [PHYSICA_OUT_OF_LIMITS] = "a number such as a coordinate, the magnetisation or the ambient field is not finite, or over 10^9",
+    [PHYSICA_OUT_OF_LIMITS] = "a number such as a coordinate, the magnetisation or the ambient field is not finite, or over 10^9; or a coordinate to be written as OBJ is not whole",
     [PHYSICA_NO_SUCH_VERTEX] = "the face # names a vertex that is not there",
     [PHYSICA_FLIPPED] = "the edge from # to # occurs twice",
     [PHYSICA_OPEN] = "the edge from # to # has no reverse",
@@ -29,12 +29,14 @@ static const char *const SENTENCES[] = {
     [PHYSICA_WRONG_MATE] = "a mate is not the reverse edge: it is wrong, or the mesh is open",
     [PHYSICA_WRONG_VOLUME] = "the stored volume is not the mesh's",
     [PHYSICA_WRONG_ROW] = "the row of station # is not what the formulas give",
+    [PHYSICA_WRONG_LINE] = "a line of the text is not `v` and three numbers, `f` and three indices from 1, a comment or blank",
+    [PHYSICA_TOO_MANY_DIGITS] = "a number or an index of the text has more than 15 digits",
 };
 
 /* The place is the face or the station; an edge stands in the sentence alone. */
 static void print_refusal(FILE *file, uint32_t number, const uint32_t values[2]) {
     int edge = number == PHYSICA_FLIPPED || number == PHYSICA_OPEN;
-    const char *c = number <= PHYSICA_WRONG_ROW ? SENTENCES[number] : "a refusal of a newer version";
+    const char *c = number < sizeof SENTENCES / sizeof *SENTENCES ? SENTENCES[number] : "a refusal of a newer version";
     fprintf(file, "refused %" PRIu32 " %" PRIu32 ": ", number, edge ? 0 : values[0]);
     for (; *c; c++) {
         if (*c == '#') fprintf(file, "%" PRIu32, *values++);

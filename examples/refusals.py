@@ -4,7 +4,7 @@
 SENTENCES = {
     1: "the kind is not 1 or 2, or a prism has other than two corners, or a list's length is no multiple of 3",
     2: "too many vertices (20,000), faces (32,768) or stations (65,536)",
-    3: "a number such as a coordinate, the magnetisation or the ambient field is not finite, or over 10^9",
+    3: "a number such as a coordinate, the magnetisation or the ambient field is not finite, or over 10^9; or a coordinate to be written as OBJ is not whole",
     4: "the face # names a vertex that is not there",
     5: "the edge from # to # occurs twice",
     6: "the edge from # to # has no reverse",
@@ -22,6 +22,8 @@ SENTENCES = {
     18: "a mate is not the reverse edge: it is wrong, or the mesh is open",
     19: "the stored volume is not the mesh's",
     20: "the row of station # is not what the formulas give",
+    21: "a line of the text is not `v` and three numbers, `f` and three indices from 1, a comment or blank",
+    22: "a number or an index of the text has more than 15 digits",
 }
 EDGES = (5, 6)  # their values are an edge, which stands in the sentence alone
 

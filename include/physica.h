@@ -1,6 +1,6 @@
-/* physica.h: gravity and magnetic fields of meshes and prisms, result sheets and their check.
+/* physica.h: gravity and magnetic fields of meshes and prisms, shape models as text, result sheets and their check.
 
-   Build the library with `rt staticlib physica` (target/staticlib/libphysica.a, x86-64 Linux) and link it: cc program.c target/staticlib/libphysica.a
+   Build the library with `sh tools/library.sh` (target/staticlib/libphysica.a, x86-64 Linux) and link it: cc program.c target/staticlib/libphysica.a
    examples/ has whole programs.
 
    A call that returns uint32_t, but for physica_version, returns 0 for an answer, or the number of a refusal (enum physica_refusal); calls that return
@@ -9,7 +9,8 @@
 
    Buffers. A parameter such as out[13] must point to at least that many numbers; `values` to two. Lists come with their length, counted in
    elements (not bytes, points or faces). A null pointer is allowed nowhere, not even with length 0. Buffers that a call writes (work, out, fields,
-   nodes, weights, size, found, values, counts, numbers) must not overlap any other buffer of the call. Alignment is that of the element's type.
+   nodes, weights, size, found, values, counts, numbers; verts and faces of read_obj, text of write_obj) must not overlap any other buffer of the call.
+   Alignment is that of the element's type.
    Under a refusal everything is left as it was, but for `values`, for `work` where a call says so, for profile's fields and for write_sheet's out.
    `values` is written at every call that has it: the refusal's values, zeros after them, zeros after an answer.
 
@@ -40,7 +41,7 @@ uint32_t physica_version(void);
 enum physica_refusal {
     PHYSICA_MALFORMED = 1,        /* a list's length is no multiple of 3; the kind is not 1 or 2; kind 2 without two vertices and no faces */
     PHYSICA_TOO_MANY = 2,         /* a count over its limit: 20,000 vertices, 32,768 faces, 65,536 stations */
-    PHYSICA_OUT_OF_LIMITS = 3,    /* a number that is not finite, or of magnitude over 1e9 */
+    PHYSICA_OUT_OF_LIMITS = 3,    /* a number that is not finite, or of magnitude over 1e9; for write_obj: or not whole */
     PHYSICA_NO_SUCH_VERTEX = 4,   /* a face index of no vertex. values[0]: the face */
     PHYSICA_FLIPPED = 5,          /* an edge that occurs twice, the smallest. values: from, to */
     PHYSICA_OPEN = 6,             /* an edge whose reverse does not occur, the smallest. values: from, to */
@@ -49,7 +50,8 @@ enum physica_refusal {
     PHYSICA_TOO_THIN = 9,         /* a prism's side, max - min, below 1e-6 */
     PHYSICA_TOO_DEEP = 10,        /* the field would take a 33rd bisection. values[0]: the station */
     PHYSICA_TOO_MANY_EDGES = 11,  /* a 65th edge through the station. values[0]: the station */
-    PHYSICA_TOO_SHORT = 12,       /* work has under 3F entries, fields under 13S numbers, or out fewer bytes than the sheet */
+    PHYSICA_TOO_SHORT = 12,       /* work has under 3F entries, fields under 13S numbers, out fewer bytes than the sheet; verts of read_obj has under
+                                     3V numbers or faces under 3F, text of write_obj fewer bytes than what is written */
     PHYSICA_NOT_FINITE = 13,      /* the computed row of a station is not finite. values[0]: the station */
     PHYSICA_OUTSIDE_DOMAIN = 14,  /* outside the call's domain, given at the call */
     PHYSICA_TOO_MANY_ROUNDS = 15, /* Carlson's loop has not ended after 64 rounds */
@@ -57,7 +59,9 @@ enum physica_refusal {
     PHYSICA_WRONG_ORDER = 17,     /* a sheet's order list is not that of its faces */
     PHYSICA_WRONG_MATE = 18,      /* a sheet's mate is not the reverse edge use */
     PHYSICA_WRONG_VOLUME = 19,    /* a sheet's volume is not, bit for bit, the computed one */
-    PHYSICA_WRONG_ROW = 20        /* a sheet's row is not, bit for bit, the computed one. values[0]: the station */
+    PHYSICA_WRONG_ROW = 20,       /* a sheet's row is not, bit for bit, the computed one. values[0]: the station */
+    PHYSICA_WRONG_LINE = 21,      /* a line of a shape model's text is of no form that is read, or has an index 0 */
+    PHYSICA_TOO_MANY_DIGITS = 22  /* a number or an index of more than 15 digits, in a line that is else of a right form */
 };
 
 /* ---- elliptic integrals, ring, quadrature ---- */
@@ -119,6 +123,34 @@ uint32_t physica_polyhedron(const double station[3], const double *verts, size_t
    3 is given for any station, also for one after a station that 11 would refuse. S = 0 is no refusal. */
 uint32_t physica_profile(const double *stations, size_t stations_len, const double *verts, size_t verts_len, const uint32_t *faces, size_t faces_len,
                          uint32_t *work, size_t work_len, double *fields, size_t fields_len, uint32_t values[2]);
+
+/* ---- shape models ----
+   Text in a part of the Wavefront OBJ format, as bytes, without a zero at the end. A line ends at a newline (byte 10) or at the text's end. Its fields
+   are separated by one or more spaces (byte 32), and by nothing else: a tab or a carriage return is a part of a field. Spaces at a line's ends count for
+   nothing. The lines that are read:
+
+      v x y z       a vertex, by three numbers: a minus or nothing, one or more digits and, optionally, a point and one or more digits
+      f a b c       a face, by three vertices counted from 1, in digits alone. It may stand before the lines of its vertices
+      # ..          a comment: its first field begins with #, whatever follows
+                    a blank line: no field
+
+   A number is read as its digits, a whole number, divided once by the power of ten; that is the nearest double. After a minus it is negated: -0 is minus
+   zero. A number or an index has at most 15 digits; zeros in front and after the point count, sign and point do not. docs/FOR-AUTHORS.md says how
+   other OBJ files are brought into this form. */
+
+/* Reads a mesh. counts: V and F, how many lines v and f the text has. verts and faces begin with the 3V coordinates and the 3F vertex numbers, counted
+   from 0, and are as they were past them; 60,000 and 98,304 entries always suffice. Refusals: 21 or 22, by the first line that has either (21 goes before
+   22 in one line), 2, 12, 3, 4; values[0] of 4 is counted among the lines f. Under each refusal verts, faces and counts are as they were. A text without
+   such lines, an empty one too, is no refusal. It does not check the mesh: physica_check_mesh does. */
+uint32_t physica_read_obj(const uint8_t *text, size_t text_len, double *verts, size_t verts_len, uint32_t *faces, size_t faces_len, uint32_t counts[2],
+                          uint32_t values[2]);
+
+/* Writes a mesh whose coordinates are whole numbers into the front of text: the lines v, then the lines f, with single spaces, no point, no zero in
+   front of another digit, and a newline after each; minus zero is -0. size: the text's length in bytes; 38 V + 20 F bytes always suffice. What is written
+   is read again as the same mesh, bit for bit. Refusals: 1, 2, 3, 4, and only then 12. Under each refusal text and size are as they were; bytes of text
+   past what is written never change. It does not check the mesh. */
+uint32_t physica_write_obj(const double *verts, size_t verts_len, const uint32_t *faces, size_t faces_len, uint8_t *text, size_t text_len, size_t *size,
+                           uint32_t values[2]);
 
 /* ---- magnetic fields ----
    Magnetisation and field strength in A/m, fields in T. */

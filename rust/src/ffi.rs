@@ -23,6 +23,12 @@ extern "C" {
         stations: *const f64, stations_len: usize, verts: *const f64, verts_len: usize, faces: *const u32, faces_len: usize, work: *mut u32, work_len: usize,
         fields: *mut f64, fields_len: usize, values: *mut [u32; 2],
     ) -> u32;
+    pub fn physica_read_obj(
+        text: *const u8, text_len: usize, verts: *mut f64, verts_len: usize, faces: *mut u32, faces_len: usize, counts: *mut [u32; 2], values: *mut [u32; 2],
+    ) -> u32;
+    pub fn physica_write_obj(
+        verts: *const f64, verts_len: usize, faces: *const u32, faces_len: usize, text: *mut u8, text_len: usize, size: *mut usize, values: *mut [u32; 2],
+    ) -> u32;
     pub fn physica_body(hessian: *const [f64; 9], magnetisation: *const [f64; 3], out: *mut [f64; 3]) -> u32;
     pub fn physica_total_field(ambient: *const [f64; 3], anomaly: *const [f64; 3], out: *mut f64) -> u32;
     pub fn physica_sphere(p: *const [f64; 3], centre: *const [f64; 3], radius: f64, magnetisation: *const [f64; 3], out: *mut [f64; 3]) -> u32;

@@ -3,7 +3,8 @@
 //!
 //! Build the library first, at the repository's root: `sh tools/library.sh`. The variable `PHYSICA_LIB_DIR` names another folder that holds it.
 //!
-//! A body is a [`Mesh`]; a sheet's bytes are read by [`Sheet`]. The functions beside them are the library's calls one by one, on lent lists.
+//! A body is a [`Mesh`], which [`read_obj`] reads from a shape model's text; a sheet's bytes are read by [`Sheet`]. The functions beside them are the library's
+//! calls one by one, on lent lists.
 //!
 //! ```
 //! use physica::{Mesh, Sheet};
@@ -23,12 +24,14 @@
 //! ```
 pub mod ffi;
 mod mesh;
+mod obj;
 mod profiles;
 mod reading;
 mod refusal;
 mod sheets;
 
 pub use mesh::Mesh;
+pub use obj::{read_obj, read_obj_into, write_obj, write_obj_into};
 pub use profiles::{profile, profile_into, ProfileError};
 pub use reading::{sheet_row, sheet_rows, sheet_station, sheet_trailer, Row, Rows, Sheet, Stations, Trailer};
 pub use refusal::Refusal;

@@ -21,7 +21,7 @@ pub enum Refusal {
     Malformed,
     /// 2: over 20,000 vertices, 32,768 faces or 65,536 stations
     TooMany,
-    /// 3: a number that is not finite, or of magnitude over 10⁹
+    /// 3: a number that is not finite, or of magnitude over 10⁹; of [`crate::write_obj`] also one that is not whole
     OutOfLimits,
     /// 4: a face index of no vertex
     NoSuchVertex { face: u32 },
@@ -57,6 +57,10 @@ pub enum Refusal {
     WrongVolume,
     /// 20: a sheet's row
     WrongRow { station: u32 },
+    /// 21: a line of a shape model's text that is of no form that is read
+    WrongLine,
+    /// 22: a number or an index of more than 15 digits in a shape model's text
+    TooManyDigits,
     /// a number of a newer library
     Other(u32),
 }
@@ -84,6 +88,8 @@ impl Refusal {
             18 => Refusal::WrongMate,
             19 => Refusal::WrongVolume,
             20 => Refusal::WrongRow { station: a },
+            21 => Refusal::WrongLine,
+            22 => Refusal::TooManyDigits,
             _ => Refusal::Other(number),
         }
     }
@@ -111,6 +117,8 @@ impl Refusal {
             Refusal::WrongMate => 18,
             Refusal::WrongVolume => 19,
             Refusal::WrongRow { .. } => 20,
+            Refusal::WrongLine => 21,
+            Refusal::TooManyDigits => 22,
             Refusal::Other(number) => number,
         }
     }
@@ -131,7 +139,10 @@ impl fmt::Display for Refusal {
         match *self {
             Refusal::Malformed => f.write_str("the kind is not 1 or 2, or a prism has other than two corners, or a list's length is no multiple of 3"),
             Refusal::TooMany => f.write_str("too many vertices (20,000), faces (32,768) or stations (65,536)"),
-            Refusal::OutOfLimits => f.write_str("a number such as a coordinate, the magnetisation or the ambient field is not finite, or over 10^9"),
+            Refusal::OutOfLimits => f.write_str(
+                "a number such as a coordinate, the magnetisation or the ambient field is not finite, or over 10^9; or a coordinate to be written as OBJ is \
+                 not whole",
+            ),
             Refusal::NoSuchVertex { face } => write!(f, "the face {face} names a vertex that is not there"),
             Refusal::Flipped { from, to } => write!(f, "the edge from {from} to {to} occurs twice"),
             Refusal::Open { from, to } => write!(f, "the edge from {from} to {to} has no reverse"),
@@ -154,6 +165,8 @@ impl fmt::Display for Refusal {
             Refusal::WrongMate => f.write_str("a mate is not the reverse edge: it is wrong, or the mesh is open"),
             Refusal::WrongVolume => f.write_str("the stored volume is not the mesh's"),
             Refusal::WrongRow { station } => write!(f, "the row of station {station} is not what the formulas give"),
+            Refusal::WrongLine => f.write_str("a line of the text is not `v` and three numbers, `f` and three indices from 1, a comment or blank"),
+            Refusal::TooManyDigits => f.write_str("a number or an index of the text has more than 15 digits"),
             Refusal::Other(_) => f.write_str("a refusal of a newer version"),
         }
     }
@@ -164,6 +177,9 @@ impl std::error::Error for Refusal {}
 #[cfg(test)]
 mod tests {
     use super::Refusal;
+
+    /// The last number of this version.
+    const LAST: u32 = 22;
 
     /// A file of the repository.
     fn text_of(name: &str) -> String {
@@ -178,7 +194,7 @@ mod tests {
 
     #[test]
     fn each_number_has_its_case() {
-        for n in 1..=20 {
+        for n in 1..=LAST {
             let r = Refusal::of(n, [7, 9]);
             assert_eq!(r.number(), n);
             assert!(!matches!(r, Refusal::Other(_)));
@@ -189,7 +205,7 @@ mod tests {
 
     #[test]
     fn a_number_of_a_newer_library_is_kept() {
-        for n in [0, 21, 26, u32::MAX] {
+        for n in [0, LAST + 1, 26, u32::MAX] {
             let r = Refusal::of(n, [7, 9]);
             assert_eq!(r, Refusal::Other(n));
             assert_eq!((r.number(), r.place()), (n, 0));
@@ -225,7 +241,7 @@ mod tests {
     /// The C header and the Python module of examples/ have a line for each number, in order.
     #[test]
     fn sentences_of_the_examples_are_these() {
-        let sentences: Vec<String> = (1..=20).map(sentence).collect();
+        let sentences: Vec<String> = (1..=LAST).map(sentence).collect();
         assert_eq!(quoted(&text_of("examples/refusals.h")), sentences);
         assert_eq!(quoted(&text_of("examples/refusals.py")), sentences);
     }

@@ -1,5 +1,5 @@
 //! Counts over their limits are refused before anything is allocated for them.
-use physica::{profile, write_sheet, Body, Mesh, Refusal};
+use physica::{profile, read_obj, write_obj, write_sheet, Body, Mesh, Refusal};
 use std::alloc::{GlobalAlloc, Layout, System};
 use std::cell::Cell;
 
@@ -56,6 +56,16 @@ fn too_many_vertices_or_faces() {
     assert_eq!(watched(|| Mesh::new(&VERTS, &faces).unwrap_err()), (Refusal::TooMany, 0));
     let body = Body::Mesh { verts: &VERTS, faces: &faces };
     assert_eq!(watched(|| write_sheet(body, AMBIENT, AMBIENT, &[])), (Err(Refusal::TooMany), 0));
+    assert_eq!(watched(|| write_obj(&verts, &FACES)), (Err(Refusal::TooMany), 0));
+    assert_eq!(watched(|| write_obj(&VERTS, &faces)), (Err(Refusal::TooMany), 0));
     // the work list of four faces is allocated, and the watch sees it
     assert_eq!(watched(|| Mesh::new(&VERTS, &FACES).unwrap().volume()), (1.0 / 6.0, 48));
+}
+
+#[test]
+fn a_text_has_room_for_what_it_can_hold() {
+    // 24 bytes to a vertex: no more than the limit of a long text, one line of a short one
+    assert_eq!(watched(|| read_obj(&b"v 0 0 0\n".repeat(30_000))), (Err(Refusal::TooMany), 24 * 20_000));
+    assert_eq!(watched(|| read_obj(b"v 0 0 0").unwrap()), ((vec![[0.0; 3]], vec![]), 24));
+    assert_eq!(watched(|| read_obj(b"v 0 0").unwrap_err()), (Refusal::WrongLine, 0));
 }

@@ -307,6 +307,32 @@ fn meshes(b: &Bench, all: &[Body]) {
     }
 }
 
+/// The body at a radius of 1,000 as text with six digits after the point, and at 1,000,000 as whole numbers.
+fn as_text(q: &Body) -> (Vec<u8>, Vec<V3>) {
+    let scaled = |v: V3, radius: f64| v.map(|x| x * (radius / q.radius));
+    let lines = q.verts.iter().map(|&v| { let [x, y, z] = scaled(v, 1e3); format!("v {x:.6} {y:.6} {z:.6}\n") });
+    let text = lines.chain(q.faces.iter().map(|f| format!("f {} {} {}\n", f[0] + 1, f[1] + 1, f[2] + 1))).collect::<String>();
+    (text.into_bytes(), q.verts.iter().map(|&v| scaled(v, 1e6).map(f64::round)).collect())
+}
+
+/// The reference's side is the reader and the writer of src/obj.rs, into lists of their own. Rough bodies have no shorter or longer texts than smooth ones.
+fn texts(b: &Bench, all: &[Body]) {
+    head("texts", "reference");
+    for q in all.iter().filter(|q| !q.name.ends_with("rough")) {
+        let (text, whole) = as_text(q);
+        let (verts, faces) = (vec![[0.0; 3]; q.verts.len()], vec![[0; 3]; q.faces.len()]);
+        let lists = RefCell::new((verts, faces));
+        b.row("read_obj", &q.name, &[()], |_| {
+            let (verts, faces) = &mut *lists.borrow_mut();
+            assert!(physica::read_obj_into(black_box(&text), verts, faces).is_ok());
+        }, |_| { black_box(obj::read(black_box(&text), [q.mesh.verts.len(), q.mesh.faces.len()]).unwrap()); });
+        let room = RefCell::new(vec![0; 38 * whole.len() + 20 * q.faces.len()]);
+        b.row("write_obj", &q.name, &[()], |_| {
+            assert!(physica::write_obj_into(black_box(&whole), q.triangles(), &mut room.borrow_mut()).is_ok());
+        }, |_| { black_box(obj::write(black_box(whole.as_flattened()), &q.mesh.faces, usize::MAX).unwrap()); });
+    }
+}
+
 /// Single calls: the whole call, and the field alone, which is the call less its mesh check here and the sums without one in the reference.
 fn polyhedra(b: &Bench, all: &[Body], r: &mut Random) {
     head("polyhedron", "reference");
@@ -465,9 +491,9 @@ fn checking(b: &Bench) {
     }
 }
 
-const GROUPS: [&str; 8] = ["numbers", "prisms", "magnetics", "meshes", "polyhedron", "profiles", "sheets", "checking"];
+const GROUPS: [&str; 9] = ["numbers", "prisms", "magnetics", "texts", "meshes", "polyhedron", "profiles", "sheets", "checking"];
 /// Those that files have too.
-const OVER_BODIES: [&str; 4] = ["meshes", "polyhedron", "profiles", "sheets"];
+const OVER_BODIES: [&str; 5] = ["texts", "meshes", "polyhedron", "profiles", "sheets"];
 
 fn main() {
     let usage = format!("usage: bench [TURNS] [--only GROUP,..] [--rows TEXT] [FILE.obj ..]; the groups are {}", GROUPS.join(", "));
@@ -496,6 +522,7 @@ fn main() {
             "numbers" => integrals(&b, r),
             "prisms" => prisms(&b, r),
             "magnetics" => magnetic(&b, r),
+            "texts" => texts(&b, &all),
             "meshes" => meshes(&b, &all),
             "polyhedron" => polyhedra(&b, &all, r),
             "profiles" => profiles(&b, &all, r),

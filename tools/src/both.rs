@@ -6,6 +6,8 @@ use physica::ffi;
 use std::collections::HashMap;
 use std::panic::{catch_unwind, AssertUnwindSafe};
 
+pub mod obj;
+
 /// What a lent number holds before a call; a refusal leaves it.
 pub const BEFORE: f64 = -12345.678;
 pub const BEFORE_WORK: u32 = 0xdead_beef;

@@ -1,8 +1,11 @@
-//! compare [--count NUMBER,PRISM,MESH,SHEET[,PROFILE]] SEED..: asks the library and the reference build the same, and prints a table: call, inputs, differences.
+//! compare [--count NUMBER,PRISM,MESH,SHEET[,PROFILE[,TEXT]]] SEED..: asks the library and the reference build the same, and prints a table: call, inputs, differences.
 //! NUMBER inputs for each call on numbers and vectors, PRISM prisms, MESH meshes (each for check_mesh and, with a station, for polyhedron), SHEET sheets
-//! (each written, then damaged and checked), PROFILE profiles (without it as many as meshes), for each seed. The exit status is 1 if anything differs.
+//! (each written, then damaged and checked), PROFILE profiles (without it as many as meshes), TEXT shape models (each read, damaged and read; and as many
+//! written; without it as many as NUMBER), for each seed. The exit status is 1 if anything differs.
 use both::*;
 use std::collections::BTreeMap;
+
+mod texts;
 
 struct Random(u64);
 impl Random {
@@ -663,19 +666,24 @@ fn run(seed: u64, counts: &[usize], table: &mut Table) {
     }
     refused_stations(&mut r, table);
     limits(table);
+    // numbers of its own, so that the texts of a seed hang on no other count
+    texts::run(&mut Random(seed), counts[5], table);
 }
 
 fn main() {
     let mut words: Vec<String> = std::env::args().skip(1).collect();
     let mut counts = vec![10_000, 10_000, 1_000, 1_000];
-    let usage = "--count NUMBER,PRISM,MESH,SHEET[,PROFILE]";
+    let usage = "--count NUMBER,PRISM,MESH,SHEET[,PROFILE[,TEXT]]";
     if words.first().map(String::as_str) == Some("--count") {
         counts = words[1].split(',').map(|w| w.parse().expect(usage)).collect();
-        assert!([4, 5].contains(&counts.len()), "{usage}");
+        assert!((4..=6).contains(&counts.len()), "{usage}");
         words.drain(..2);
     }
     if counts.len() == 4 {
         counts.push(counts[2]);
+    }
+    if counts.len() == 5 {
+        counts.push(counts[0]);
     }
     start();
     let mut table = Table(vec![]);

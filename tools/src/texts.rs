@@ -217,6 +217,8 @@ fn limits(table: &mut Table) {
             let mut m = Mesh { room, ..m.clone() };
             m.verts[3 * v - 1] = x;
             write(table, &m);
+            m.verts.push(x);
+            write(table, &m);
         }
     }
 }

@@ -7,7 +7,7 @@ use Prim.Native.Nat.{ℕ, ◌≤◌}
 use native.Mathlib.Omega.{arith}
 use lib.ListN.{get_or, take}
 use Rattle.refusals.specs.declared.Refusal.{Refusal}
-use Rattle.refusals.specs.declared.Refusal.TheVariants.{Malformed, TooMany, OutOfLimits, NoSuchVertex, Flipped, Open, Degenerate, Inverted, TooThin, TooDeep, TooManyEdges, TooShort, NotFinite, OutsideDomain, TooManyRounds, WrongLength, WrongOrder, WrongMate, WrongVolume, WrongRow}
+use Rattle.refusals.specs.declared.Refusal.TheVariants.{Malformed, TooMany, OutOfLimits, NoSuchVertex, Flipped, Open, Degenerate, Inverted, TooThin, TooDeep, TooManyEdges, TooShort, NotFinite, OutsideDomain, TooManyRounds, WrongLength, WrongOrder, WrongMate, WrongVolume, WrongRow, WrongLine, TooManyDigits}
 use Rattle.refusals.specs.Numbers.{number_of}
 use Rattle.sheet.specs.Input.{SheetInput}
 use Rattle.sheet.specs.Bytes.{sheet_size}
@@ -42,6 +42,8 @@ number-least WrongOrder = omega arith
 number-least WrongMate = omega arith
 number-least WrongVolume = omega arith
 number-least (WrongRow station) = omega arith
+number-least WrongLine = omega arith
+number-least TooManyDigits = omega arith
 
 -- ---- the writer
 

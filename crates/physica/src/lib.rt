@@ -6,5 +6,6 @@
 mod bodies;
 mod magnetics;
 mod numbers;
+mod shapes;
 mod sheets;
 mod version;

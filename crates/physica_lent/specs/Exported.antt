@@ -7,6 +7,7 @@ use Rattle.rings.specs.declared.Complete.{Complete}
 use Rattle.rings.specs.declared.RingAverage.{RingAverage}
 use Rattle.legendre.specs.declared.Rule.{Rule}
 use Rattle.sheet.specs.declared.Accepted.{Accepted}
+use Rattle.obj.specs.declared.Counts.{Counts}
 pub use Rattle.newtonian.specs.Numbers.{vector_of, hessian_of}
 
 -- ---- the numbers of an answer
@@ -25,6 +26,10 @@ ring_numbers a = a.v ∷ a.drho ∷ a.dz ∷ []
 -- kind and S
 abbrev pub accepted_numbers : Accepted → List ℕ
 accepted_numbers a = a.kind ∷ a.stations ∷ []
+
+-- V and F
+abbrev pub count_numbers : Counts → List ℕ
+count_numbers c = c.vertices ∷ c.faces ∷ []
 
 abbrev pub nodes_of : Rule → List Float
 nodes_of rule = rule.nodes

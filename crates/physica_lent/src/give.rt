@@ -32,7 +32,9 @@ fn values_of(r: Refusal) -> [u32; 2]
         | Refusal::WrongLength
         | Refusal::WrongOrder
         | Refusal::WrongMate
-        | Refusal::WrongVolume => [0, 0],
+        | Refusal::WrongVolume
+        | Refusal::WrongLine
+        | Refusal::TooManyDigits => [0, 0],
     }
 }
 

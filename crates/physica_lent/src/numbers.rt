@@ -1,11 +1,12 @@
 // The numbers of an answer, as a caller in C lends room for them: which ones, and in which order, is what an impl says. A vector's and a field's take `From` each: `From`
 // says what it gives by a relation, and the calls' contracts name a function, `numbers`, which an impl over all of `From` could not give. For the others
-// (`Complete`, `RingAverage`, `Accepted`) an impl that gives a function would be needed all the same, so that a `From` would be a second one beside it.
+// (`Complete`, `RingAverage`, `Accepted`, `Counts`) an impl that gives a function would be needed all the same, so that a `From` would be a second one beside it.
 ghost use Rattle.std.specs.Prelude.{◌≡◌};
 ghost use Rattle.newtonian.specs.Vectors.{vector_numbers, field_numbers};
-ghost use Rattle.physica_lent.specs.Exported.{itself, complete_numbers, ring_numbers, accepted_numbers};
+ghost use Rattle.physica_lent.specs.Exported.{itself, complete_numbers, ring_numbers, accepted_numbers, count_numbers};
 
 use newtonian::{FIELD_SIZE, Newtonian, Vector};
+use obj::Counts;
 use rings::{Complete, RingAverage};
 use sheet::Accepted;
 
@@ -62,5 +63,13 @@ impl Numbers<[u32; 2]> for Accepted {
 
     fn numbers(self) -> [u32; 2] {
         [self.kind, self.stations]
+    }
+}
+
+impl Numbers<[u32; 2]> for Counts {
+    ghost numbers = { count_numbers };
+
+    fn numbers(self) -> [u32; 2] {
+        [self.vertices, self.faces]
     }
 }

@@ -1,7 +1,7 @@
--- Document 01's table of refusals: the number of each, the values that it returns, and the place that `recheck` prints. Definitions only.
+-- Document 01's table of refusals, with the numbers that document 02's orders add: the number of each, the values that it returns, and the place that `recheck` prints. Definitions only.
 use Rattle.std.specs.Prelude.{List, [], ◌∷◌, ℕ}
 use Rattle.refusals.specs.declared.Refusal.{Refusal}
-use Rattle.refusals.specs.declared.Refusal.TheVariants.{Malformed, TooMany, OutOfLimits, NoSuchVertex, Flipped, Open, Degenerate, Inverted, TooThin, TooDeep, TooManyEdges, TooShort, NotFinite, OutsideDomain, TooManyRounds, WrongLength, WrongOrder, WrongMate, WrongVolume, WrongRow}
+use Rattle.refusals.specs.declared.Refusal.TheVariants.{Malformed, TooMany, OutOfLimits, NoSuchVertex, Flipped, Open, Degenerate, Inverted, TooThin, TooDeep, TooManyEdges, TooShort, NotFinite, OutsideDomain, TooManyRounds, WrongLength, WrongOrder, WrongMate, WrongVolume, WrongRow, WrongLine, TooManyDigits}
 
 abbrev pub number_of : Refusal → ℕ
 number_of Malformed = 1
@@ -24,6 +24,8 @@ number_of WrongOrder = 17
 number_of WrongMate = 18
 number_of WrongVolume = 19
 number_of (WrongRow station) = 20
+number_of WrongLine = 21
+number_of TooManyDigits = 22
 
 -- a face, the two ends of an edge, or a station, where the table returns more than the number
 abbrev pub values_of : Refusal → List ℕ
@@ -47,6 +49,9 @@ values_of WrongOrder = []
 values_of WrongMate = []
 values_of WrongVolume = []
 values_of (WrongRow station) = station ∷ []
+-- each number of document 02 is returned alone
+values_of WrongLine = []
+values_of TooManyDigits = []
 
 -- a face or a station stands alone; an edge is no place, and prints as 0
 abbrev pub single_value : List ℕ → ℕ

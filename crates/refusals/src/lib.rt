@@ -1,4 +1,4 @@
-// The refusals: one case for each number of document 01's table, with the values that it returns.
+// The refusals: one case for each number of document 01's table, with the values that it returns, and for each number that document 02's orders add, which have none.
 #![tactic(auto)]
 
 ghost use Rattle.std.specs.Prelude.{◌≡◌};
@@ -49,10 +49,14 @@ pub enum Refusal {
     WrongVolume,
     // 20: the station whose row's bits differ
     WrongRow(u32),
+    // 21: the first bad line of an OBJ text is of none of the forms that are read
+    WrongLine,
+    // 22: it is of a right form, and a number or an index in it has more than 15 digits
+    TooManyDigits,
 }
 
 impl Refusal {
-    // The refusal's number in document 01, whose table this is: some cases carry a place, so that no cast gives it.
+    // The refusal's number in documents 01 and 02, whose table this is: some cases carry a place, so that no cast gives it.
     pub fn number(self) -> u32
         ensures { result ≡ number_of self }
     {
@@ -77,6 +81,8 @@ impl Refusal {
             Refusal::WrongMate => 18,
             Refusal::WrongVolume => 19,
             Refusal::WrongRow(_) => 20,
+            Refusal::WrongLine => 21,
+            Refusal::TooManyDigits => 22,
         }
     }
 
@@ -103,7 +109,9 @@ impl Refusal {
             | Refusal::WrongLength
             | Refusal::WrongOrder
             | Refusal::WrongMate
-            | Refusal::WrongVolume => 0,
+            | Refusal::WrongVolume
+            | Refusal::WrongLine
+            | Refusal::TooManyDigits => 0,
         }
     }
 }

@@ -1,0 +1,2 @@
+-- What it is to be the nearest double.
+pub mod Nearest

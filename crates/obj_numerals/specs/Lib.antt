@@ -1,0 +1,3 @@
+-- Decimal digits of a given count, and what is written at a cursor.
+pub mod Digits
+pub mod Put

@@ -1,0 +1,2 @@
+-- What the walks over a text find.
+pub mod Passes

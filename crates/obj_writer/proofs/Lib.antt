@@ -1,0 +1,6 @@
+-- Laws that the proofs share.
+mod Fields
+mod Chunks
+mod WrittenLines
+mod GivenCauses
+mod WholeText
