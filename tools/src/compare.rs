@@ -79,10 +79,15 @@ fn positive(r: &mut Random) -> f64 {
     if r.chance(16) { x } else { x.abs() }
 }
 
+/// A subnormal number, or one not far above them: its quarter, or a later one, may lie between two doubles.
+fn tiny(r: &mut Random) -> f64 {
+    f64::from_bits(r.next() >> (9 + r.below(55)))
+}
+
 fn numbers(r: &mut Random, name: &str, n: usize) -> Vec<f64> {
     match name {
         "carlson_rc" | "carlson_rf" | "carlson_rd" | "carlson_rj" => {
-            let mut a: Vec<f64> = (0..n).map(|_| positive(r)).collect();
+            let mut a: Vec<f64> = if r.chance(8) { (0..n).map(|_| tiny(r)).collect() } else { (0..n).map(|_| positive(r)).collect() };
             // the second argument of R_C and the fourth of R_J may be below zero
             if (name == "carlson_rc" || name == "carlson_rj") && r.chance(3) {
                 a[n - 1] = -a[n - 1];
@@ -90,6 +95,7 @@ fn numbers(r: &mut Random, name: &str, n: usize) -> Vec<f64> {
             a
         }
         "complete_elliptic" => vec![match r.below(8) { 0 => number(r), 1 => 1.0 - r.magnitude(-17.0, 0.0), _ => r.unit() }],
+        "ellipsoid_factors" if r.chance(8) => (0..n).map(|_| tiny(r)).collect(),
         "ring" | "ellipsoid_factors" | "cel" => (0..n).map(|_| positive(r)).collect(),
         _ => {
             let mut a: Vec<f64> = (0..n).map(|_| if r.chance(64) { number(r) } else { let x = r.magnitude(-3.0, 6.0); r.signed(x) }).collect();

@@ -6,7 +6,7 @@ ghost use Rattle.std.specs.Float.{binary64};
 ghost use Rattle.std.specs.Float.Ieee.{of_int, minus};
 ghost use Rattle.std.specs.Float.Ieee.Positive.{positive};
 ghost use Rattle.roots.specs.Root.{Root};
-ghost use Rattle.carlson.specs.CarlsonLoop.{max_rounds, loop_test};
+ghost use Rattle.carlson.specs.CarlsonLoop.{max_rounds, quarter, loop_test};
 ghost use Rattle.carlson.specs.Rounds.{rounds, Steps, Rounds};
 ghost use Rattle.carlson.specs.Rc.{duplicate_c, test_c, series_c, rc_above, times_integral, rc, carlson_rc, rc_value};
 ghost use Rattle.carlson.specs.Logarithm.{ln_at, ln};
@@ -61,6 +61,13 @@ pub fn loop_test(q: f64, a: f64, f: f64) -> bool
     f * q >= doubles::abs(a)
 }
 
+// w / 4: the product with 1/4 gives the bits of the quotient for every double (doubles/specs/QuarterLaw).
+pub fn quarter(w: f64) -> f64
+    ensures { result ≡ quarter w }
+{
+    0.25 * w
+}
+
 // √x. atan's loop starts at x = 1, and the test spares it a root there.
 fn root_of(x: f64) -> f64
     ensures { result ≡ Root x }
@@ -72,17 +79,17 @@ fn root_of(x: f64) -> f64
 }
 
 // From round n to n + 1.
-#[tactic(auto, unfolding(crate::specs::Rc::duplicate_c, crate::specs::CarlsonLoop::quarter))]
+#[tactic(auto, unfolding(crate::specs::Rc::duplicate_c))]
 fn duplicate_c(s: RoundC) -> RoundC
     requires { s.n < max_rounds }
     ensures { result ≡ duplicate_c s }
 {
     let lambda = 2.0 * root_of(s.x) * roots::root(s.y) + s.y;
     RoundC {
-        x: (s.x + lambda) / 4.0,
-        y: (s.y + lambda) / 4.0,
-        a: (s.a + lambda) / 4.0,
-        f: s.f / 4.0,
+        x: quarter(s.x + lambda),
+        y: quarter(s.y + lambda),
+        a: quarter(s.a + lambda),
+        f: quarter(s.f),
         n: s.n + 1,
     }
 }

@@ -11,6 +11,9 @@ abbrev pub 0·0 : Float
 abbrev pub -0·0 : Float
 -0·0 = neg 0·0
 
+abbrev pub 0·25 : Float
+0·25 = of_bits binary64 0x3fd0_0000_0000_0000
+
 abbrev pub 0·5 : Float
 0·5 = of_bits binary64 0x3fe0_0000_0000_0000
 

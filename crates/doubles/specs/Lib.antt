@@ -2,4 +2,5 @@
 pub mod Rounded
 pub mod Constants
 pub mod ConstantsAreNearest
+pub mod QuarterLaw
 pub mod Magnitude

@@ -5,8 +5,8 @@ use mathlib.Core.List.{List}
 use mathlib.Core.Bool.{Bool, true, false, cond}
 use Prim.Native.Nat.{ℕ}
 use lib.Ieee.{Float}
-use Rattle.doubles.specs.Rounded.{◌⊕◌, ◌⊗◌, ◌⊘◌}
-use Rattle.doubles.specs.Constants.{1·0, 2·0, 4·0}
+use Rattle.doubles.specs.Rounded.{◌⊕◌, ◌⊗◌}
+use Rattle.doubles.specs.Constants.{1·0, 2·0}
 use Rattle.roots.specs.Root.{Root}
 use Rattle.carlson.specs.Rounds.{rounds}
 use Rattle.carlson.specs.CarlsonLoop.{max_rounds, quarter, loop_test}
@@ -41,29 +41,28 @@ module _ {q : Float} {d : RoundC} {t : Bool} {x y a f l : Float} (s : Reads q d 
   abbrev λ_of : Float
   λ_of = 2·0 ⊗ Root x ⊗ Root y ⊕ y
 
-  sums : (w z : Float) → w ≡ z → (w ⊕ λ_of) ⊘ 4·0 ≡ quarter (z ⊕ λC d)
-  unfolding quarter
+  sums : (w z : Float) → w ≡ z → quarter (w ⊕ λ_of) ≡ quarter (z ⊕ λC d)
   sums w z e = rw (e, s.x_is, s.y_is)
 
   -- where a round is made, its λ is the definition's
-  made : (w : Float) → cond t ((w ⊕ l) ⊘ 4·0) w ≡ cond t ((w ⊕ λ_of) ⊘ 4·0) w
-  made w = ap (λ (u : Float). cond t ((w ⊕ u) ⊘ 4·0) w) s.l_is ∙ under t (λ u. (w ⊕ u) ⊘ 4·0) λ_of y w
+  made : (w : Float) → cond t (quarter (w ⊕ l)) w ≡ cond t (quarter (w ⊕ λ_of)) w
+  made w = ap (λ (u : Float). cond t (quarter (w ⊕ u)) w) s.l_is ∙ under t (λ u. quarter (w ⊕ u)) λ_of y w
 
-  pub round_x : {v : Float} → v ≡ cond t ((x ⊕ l) ⊘ 4·0) x → v ≡ (round_if q d).x
+  pub round_x : {u v : Float} → u ≡ quarter (x ⊕ l) → v ≡ cond t u x → v ≡ (round_if q d).x
   unfolding round_if duplicate_c
-  round_x e = e ∙ made x ∙ rw (sums x d.x s.x_is, s.x_is, tests) (part (test_c q d) (λ r. r.x) (duplicate_c d) d)
+  round_x h e = e ∙ rw (h, made x, sums x d.x s.x_is, s.x_is, tests) (part (test_c q d) (λ r. r.x) (duplicate_c d) d)
 
-  pub round_y : {v : Float} → v ≡ cond t ((y ⊕ l) ⊘ 4·0) y → v ≡ (round_if q d).y
+  pub round_y : {u v : Float} → u ≡ quarter (y ⊕ l) → v ≡ cond t u y → v ≡ (round_if q d).y
   unfolding round_if duplicate_c
-  round_y e = e ∙ made y ∙ rw (sums y d.y s.y_is, s.y_is, tests) (part (test_c q d) (λ r. r.y) (duplicate_c d) d)
+  round_y h e = e ∙ rw (h, made y, sums y d.y s.y_is, s.y_is, tests) (part (test_c q d) (λ r. r.y) (duplicate_c d) d)
 
-  pub round_a : {v : Float} → v ≡ cond t ((a ⊕ l) ⊘ 4·0) a → v ≡ (round_if q d).a
+  pub round_a : {u v : Float} → u ≡ quarter (a ⊕ l) → v ≡ cond t u a → v ≡ (round_if q d).a
   unfolding round_if duplicate_c
-  round_a e = e ∙ made a ∙ rw (sums a d.a s.a_is, s.a_is, tests) (part (test_c q d) (λ r. r.a) (duplicate_c d) d)
+  round_a h e = e ∙ rw (h, made a, sums a d.a s.a_is, s.a_is, tests) (part (test_c q d) (λ r. r.a) (duplicate_c d) d)
 
-  pub round_f : {v : Float} → v ≡ cond t (f ⊘ 4·0) f → v ≡ (round_if q d).f
-  unfolding round_if duplicate_c quarter
-  round_f e = e ∙ rw (s.f_is, tests) (part (test_c q d) (λ r. r.f) (duplicate_c d) d)
+  pub round_f : {u v : Float} → u ≡ quarter f → v ≡ cond t u f → v ≡ (round_if q d).f
+  unfolding round_if duplicate_c
+  round_f h e = e ∙ rw (h, s.f_is, tests) (part (test_c q d) (λ r. r.f) (duplicate_c d) d)
 
 from : Float → Float → Float → Float → Float → RoundC
 from q x y a f = rounds (test_c q) duplicate_c max_rounds (record { x = x; y = y; a = a; f = f; n = 0 })

@@ -13,7 +13,7 @@ ghost use Rattle.carlson.specs.Rc.{A₀C, QC};
 ghost use Rattle.lanes.specs.Lanes.{lane, Lanes};
 ghost use Rattle.lanes_rc.specs.LaneRounds.{States, Ended, after_one, after_all, ending, rc_number};
 
-use carlson::{RC_FACTOR, loop_test, series_c};
+use carlson::{RC_FACTOR, loop_test, quarter, series_c};
 use lanes::{pick, roots};
 
 // λ of a round, where the lane makes one, which t says: the lane's own test. Where it makes none nobody asks for λ, and the two roots are saved.
@@ -55,10 +55,10 @@ fn round<const N: usize>(
         let fk = f[k];
         let t = loop_test(q[k], ak, fk);
         let lambda = lambda_if(t, xk, yk);
-        x[k] = pick(t, (xk + lambda) / 4.0, xk);
-        y[k] = pick(t, (yk + lambda) / 4.0, yk);
-        a[k] = pick(t, (ak + lambda) / 4.0, ak);
-        f[k] = pick(t, fk / 4.0, fk);
+        x[k] = pick(t, quarter(xk + lambda), xk);
+        y[k] = pick(t, quarter(yk + lambda), yk);
+        a[k] = pick(t, quarter(ak + lambda), ak);
+        f[k] = pick(t, quarter(fk), fk);
     }
 }
 

@@ -67,17 +67,17 @@ pub fn series(e2: f64, e3: f64, e4: f64, e5: f64) -> f64
 // ---- R_F
 
 // From round n to n + 1.
-#[tactic(auto, unfolding(crate::specs::Rf::duplicate_f, carlson::specs::CarlsonLoop::quarter))]
+#[tactic(auto, unfolding(crate::specs::Rf::duplicate_f))]
 fn duplicate_f(s: RoundF) -> RoundF
     ensures { result ≡ duplicate_f s }
 {
     let lambda = lambda(roots::root(s.x), roots::root(s.y), roots::root(s.z));
     RoundF {
-        x: (s.x + lambda) / 4.0,
-        y: (s.y + lambda) / 4.0,
-        z: (s.z + lambda) / 4.0,
-        a: (s.a + lambda) / 4.0,
-        f: s.f / 4.0,
+        x: carlson::quarter(s.x + lambda),
+        y: carlson::quarter(s.y + lambda),
+        z: carlson::quarter(s.z + lambda),
+        a: carlson::quarter(s.a + lambda),
+        f: carlson::quarter(s.f),
     }
 }
 
@@ -120,18 +120,18 @@ pub fn rf(x: f64, y: f64, z: f64) -> Result<f64, Refusal>
 // ---- R_D
 
 // From round n to n + 1.
-#[tactic(auto, unfolding(crate::specs::Rd::duplicate_d, carlson::specs::CarlsonLoop::quarter))]
+#[tactic(auto, unfolding(crate::specs::Rd::duplicate_d))]
 fn duplicate_d(s: RoundD) -> RoundD
     ensures { result ≡ duplicate_d s }
 {
     let sz = roots::root(s.z);
     let lambda = lambda(roots::root(s.x), roots::root(s.y), sz);
     RoundD {
-        x: (s.x + lambda) / 4.0,
-        y: (s.y + lambda) / 4.0,
-        z: (s.z + lambda) / 4.0,
-        a: (s.a + lambda) / 4.0,
-        f: s.f / 4.0,
+        x: carlson::quarter(s.x + lambda),
+        y: carlson::quarter(s.y + lambda),
+        z: carlson::quarter(s.z + lambda),
+        a: carlson::quarter(s.a + lambda),
+        f: carlson::quarter(s.f),
         sum: s.sum + s.f / (sz * (s.z + lambda)),
     }
 }

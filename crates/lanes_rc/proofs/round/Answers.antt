@@ -20,8 +20,8 @@ loop-k-preserved g c =
       l_is = c.lambda_if-lambda.ensures;
       t_is = c.loop_test-t.ensures;
     } in (
-      one-filled i.0 l (round_x w c.pick.ensures),
-      one-filled i.1 l (round_y w c.pick-in-loop-k.ensures),
-      one-filled i.2 l (round_a w c.pick-in-loop-k-2.ensures),
-      one-filled i.3 l (round_f w c.pick-in-loop-k-3.ensures),
+      one-filled i.0 l (round_x w c.quarter.ensures c.pick.ensures),
+      one-filled i.1 l (round_y w c.quarter-in-loop-k.ensures c.pick-in-loop-k.ensures),
+      one-filled i.2 l (round_a w c.quarter-in-loop-k-2.ensures c.pick-in-loop-k-2.ensures),
+      one-filled i.3 l (round_f w c.quarter-in-loop-k-3.ensures c.pick-in-loop-k-3.ensures),
     )
