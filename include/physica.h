@@ -99,7 +99,10 @@ uint32_t physica_gauss_legendre(uint32_t order, double nodes[16], double weights
    3k+j runs from corner j of face k to the next corner; all uses by from, to, number); entries past that, and all of it after any other refusal, are
    as they were. */
 
-/* The field of the rectangular prism from min to max at a station. Refusals: 3, 9, 10. */
+/* The field of the rectangular prism from min to max at a station. Near a prism whose longest side is over twice its shortest it may be the sum over
+   two halves, and these over theirs: cut across the longest side, of equal ones the first of x, y, z. Sheets of kind 2 cut the last, so that where a
+   piece has equal longest sides, as a square plate has, their rows may differ from this by rounding, and 10 may refuse other stations.
+   Refusals: 3, 9, 10. */
 uint32_t physica_prism(const double station[3], const double min[3], const double max[3], double out[13], uint32_t values[2]);
 
 /* Is the mesh closed, wound consistently and outwards? out: its volume. Refusals: 1, 2, 12, 3, 4, 5, 6, 7, 8. */
@@ -198,7 +201,7 @@ size_t physica_sheet_length(uint32_t kind, size_t vertices, size_t faces, size_t
    into the front of out. size: the sheet's length in bytes. Refusals: 1, 2, 12, 3, 4, then 5, 6, 7, 8 or 9, then station by station 10 or 11, 13.
    After 10, 11 and 13 the sheet's length in out is zeroed; after every other refusal out is as it was. Bytes of out past the sheet never change.
    work: as for a mesh above; after 13 too it holds the order list. With a magnetisation and an ambient field of zero every row's last number is 0/0,
-   and the first station is refused by 13. */
+   and the first station is refused by 13. Kind 2 cuts the last of equal longest sides, physica_prism the first. */
 uint32_t physica_write_sheet(uint32_t kind, const double *verts, size_t verts_len, const uint32_t *faces, size_t faces_len,
                              const double magnetisation[3], const double ambient[3], const double *stations, size_t stations_len, uint32_t *work,
                              size_t work_len, uint8_t *out, size_t out_len, size_t *size, uint32_t values[2]);

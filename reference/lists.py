@@ -19,6 +19,10 @@ def bits(x):
     return struct.unpack("<Q", struct.pack("<d", x))[0]
 
 
+def of_bits(b):
+    return struct.unpack("<d", struct.pack("<Q", b))[0]
+
+
 def near(b):
     """A pattern and its neighbours."""
     return [b - 1, b, b + 1]
@@ -403,7 +407,76 @@ def prisms(reference):
         add((0, 0, x), (-1, -1, -1), (1, 1, 1))
         add((0, 0, 0), (-1e9, -1e9, -1e9), (1e9, 1e9, abs(x)))
         add((1, 2, 3), (x, 0, 0), (1e9, 1, 1))
-    return [("prism", c) for c in cases + orders_met(reference, r)]
+    return [("prism", c) for c in cases + orders_met(reference, r) + plates(reference)]
+
+
+def prism_answers(reference, name, cases):
+    """The words of the answer to each of the prisms."""
+    text = "".join(name + " " + " ".join("%016x" % b for b in c) + "\n" for c in cases)
+    return [line.split() for line in subprocess.run([reference], input=text, capture_output=True, text=True, check=True).stdout.splitlines()]
+
+
+def plate(axis, place, up, lo, hi, thick=0.001, least=0.0):
+    """A plate from lo to hi across the axis and `thick` along it, from `least` on, seen from `up` thicknesses above the place; places have the two coordinates across the axis."""
+    out = [list(place), list(lo), list(hi)]
+    for v, x in zip(out, (least + thick + up * thick, least, least + thick)):
+        v.insert(axis, x)
+    return [bits(float(x)) for v in out for x in v]
+
+
+HEIGHTS = (0.02, 0.1, 0.5, 1.0, 3.0, 8.0, 20.0)
+
+
+def square_plates(r):
+    """Plates whose longest sides are equal, as rounded, across each axis and seen from each height."""
+    for axis in range(3):
+        for up in HEIGHTS:
+            # 1 x 1 x 1/1000, scaled and shifted, from over a corner, over a side, and beside the plate: few bisections
+            for place in ((0.0, 0.0), (0.5, 0.0), (1.25, 1 / 3)):
+                wide = r.choice((1.0, 1.0, 0.37, 1e3))
+                at, least = r.choice((0.0, 0.0, 1.0, -37.5, 1e3)) * wide, r.choice((0.0, 0.0, 1.0, -37.5)) * wide
+                yield plate(axis, [x * wide + at for x in place], up, (at, at), (wide + at, wide + at), 0.001 * wide, least)
+            # 10 x 10 x 1/1000 and wider: many
+            wide = 10.0 ** r.choice((1, 2, 3, 3.7))
+            yield plate(axis, (r.uniform(0, 1) * wide, r.uniform(0, 1) * wide), up, (0.0, 0.0), (wide, wide))
+            # a corner that is a unit of the last place off, and sides that are equal all the same
+            yield plate(axis, (-30.0, 0.3), up, (-100.0, -100.0), (1.0, math.nextafter(1.0, 2.0)))
+
+
+def refused_once(reference, r):
+    """Four plates that 10 refuses where the first of equal sides is halved and not where the last is, and four the other way about."""
+    tried = []
+    for _ in range(400):
+        axis, wide = r.randrange(3), 10.0 ** r.uniform(3.7, 4.5)
+        tried.append(plate(axis, (r.uniform(0, 1) * wide, r.uniform(0, 1) * wide), 10.0 ** r.uniform(-1.5, 1.0), (0.0, 0.0), (wide, wide)))
+    first, last = (prism_answers(reference, name, tried) for name in ("prism", "prism_last"))
+    once = lambda one, other: [c for c, a, b in zip(tried, one, other) if a[0] == "refused" and b[0] == "ok"][:4]
+    assert len(once(first, last)) == len(once(last, first)) == 4
+    return once(first, last) + once(last, first)
+
+
+def longer_plates(to):
+    """Plates of 10 x 10 with one of these sides made longer."""
+    return [plate(axis, (3.0, 4.0), up, (0.0, 0.0), hi) for axis in range(3) for up in HEIGHTS for hi in ((to, 10.0), (10.0, to))]
+
+
+def plates(reference):
+    """Plates that are bisected, few times and many: with equal longest sides; with one side a unit of the last place longer, which may have pieces with equal sides, since middles
+    are rounded; and with one a 64th longer, which have none."""
+    r = random.Random(2024)
+    depth = lambda name, cases: [int(a[-1]) if a[0] == "ok" else None for a in prism_answers(reference, "depth " + name, cases)]
+    differ = lambda cases: sum(a != b for a, b in zip(prism_answers(reference, "prism", cases), prism_answers(reference, "prism_last", cases)))
+    tied = list(square_plates(r))
+    tied = [c for c, n in zip(tied, depth("prism", tied)) if n] + refused_once(reference, r)
+    unit, longer = longer_plates(math.nextafter(10.0, 11.0)), longer_plates(10.0 + 10.0 / 64)
+    depths = [n for n in depth("prism_last", tied) if n is not None]
+    told = (len(tied), min(depths), max(depths), differ(tied), len(unit), differ(unit), len(longer), differ(longer))
+    print("%d plates with equal longest sides, %d to %d bisections deep: %d answers differ by the rule; one side a unit longer, %d: %d; a 64th longer, %d: %d" % told, file=sys.stderr)
+    half_widths = lambda c: sorted(0.5 * (of_bits(c[6 + i]) - of_bits(c[3 + i])) for i in range(3))
+    assert all(h[1] == h[2] for h in map(half_widths, tied))
+    assert len(tied) >= 100 and differ(tied) >= 50 and min(depths) <= 4 and max(depths) >= 28
+    assert all(depth("prism", unit + longer)) and differ(longer) == 0
+    return tied + unit + longer
 
 
 # ---- polyhedra: a station, a list of vertices, a list of faces, the length of work

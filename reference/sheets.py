@@ -2,15 +2,15 @@
 """sheets.py REFERENCE NAME: writes sheets made from document 01's text and the reference build's answers, not by the writer, to standard output.
 
 NAME is `tetrahedron N` (the sheet of the tetrahedron T with N = 0 or 2 stations), `written` (sheets of both kinds, each after its length), `flips` (two sheets
-to flip bits in, likewise), or `damaged` (sheets that the checker refuses, each after its length, the refusal's number and its place; those of 2 are long, and the
-program makes them itself). Lengths, numbers and places are little-endian in 4 bytes. Seeds are fixed, so a list is the same each time.
+to flip bits in, likewise), `plates` (sheets over square plates, each after its length, and the number and the place of its refusal, 0 where it is accepted), or `damaged` (sheets that the
+checker refuses, likewise; those of 2 are long, and the program makes them itself). Lengths, numbers and places are little-endian in 4 bytes. Seeds are fixed, so a list is the same each time.
 """
 import random
 import struct
 import subprocess
 import sys
 
-from lists import CUBE, OCTAHEDRON, TETRAHEDRON, bits, body_text, closed_mesh, flat, hexes
+from lists import CUBE, OCTAHEDRON, TETRAHEDRON, bits, body_text, closed_mesh, flat, hexes, of_bits, plates
 
 
 def order_list(faces):
@@ -32,9 +32,9 @@ class Reference:
     def ask(self, lines):
         return subprocess.run([self.program], input="".join(line + "\n" for line in lines), capture_output=True, text=True, check=True).stdout.splitlines()
 
-    def rows(self, kind, verts, faces, magnetisation, ambient, stations):
-        """The rows as 64-bit patterns; a refusal ends the program."""
-        body = "polyhedron %%s %s" % body_text(flat(verts), flat(faces)) if kind == 1 else "prism %%s %s" % hexes(flat(verts))
+    def rows(self, kind, verts, faces, magnetisation, ambient, stations, prism="prism_last"):
+        """The rows as 64-bit patterns; a refusal ends the program. A prism's are by the published choice among equal longest sides, or as `prism` says."""
+        body = "polyhedron %%s %s" % body_text(flat(verts), flat(faces)) if kind == 1 else "%s %%s %s" % (prism, hexes(flat(verts)))
         ask = [body % hexes(p) for p in stations]
         fields = [line.split() for line in self.ask(ask)]
         assert all(f[0] == "ok" for f in fields), fields
@@ -98,6 +98,23 @@ def written(ref):
         vector = lambda: [r.choice((0.0, -0.0, 1.0, r.uniform(-5, 5), 5e4)) for _ in range(3)]
         if ref_closed(ref, kind, verts, faces):
             yield whole(ref, kind, verts, faces, vector(), vector(), stations)
+
+
+def over_plates(ref):
+    """(number, place, sheet): sheets of kind 2 over the prisms of lists.py's `plates`, each with two stations, the plate's own the second. By the published choice among equal longest
+    sides a sheet is accepted, or refused by 10; by the other, where the row differs, it is refused by 20."""
+    m, b = (1, 2, -2), (20000, 0, 45000)
+    for case in plates(ref.program):
+        p, lo, hi = ([of_bits(w) for w in case[i:i + 3]] for i in (0, 3, 6))
+        body, stations = [lo, hi], [[x + 1e5 for x in hi], p]
+        made = lambda rows: sheet(2, body, [], m, b, stations, rows, ref.volume(2, body, []))
+        first, last = (ref.ask(["%s %s" % (name, hexes(p + lo + hi))])[0].split()[0] == "ok" for name in ("prism", "prism_last"))
+        published = ref.rows(2, body, [], m, b, stations) if last else None
+        other = ref.rows(2, body, [], m, b, stations, "prism") if first else None
+        if last:
+            yield 0, 0, made(published)
+        if first and other != published:
+            yield 20 if last else 10, 1, made(other)
 
 
 def ref_closed(ref, kind, verts, faces):
@@ -209,5 +226,5 @@ if __name__ == "__main__":
         for s in written(reference) if name == "written" else [tetrahedron(reference, 2), no_zeros(reference)]:
             out.write(struct.pack("<I", len(s)) + s)
     else:
-        for number, place, s in damaged(reference):
+        for number, place, s in over_plates(reference) if name == "plates" else damaged(reference):
             out.write(struct.pack("<III", len(s), number, place) + s)

@@ -131,6 +131,8 @@ def main(argv):
         for a, b in sorted(names.items()):
             print(a, b)
         return None
+    if argv:
+        return __doc__
     for path in files((".rt", ".antt", ".edit")):
         old = read(path)
         new = turned(old, names)

@@ -182,6 +182,10 @@ pub fn gauss_legendre(order: u32) -> Result<(Vec<f64>, Vec<f64>), Refusal> {
 
 /// The field of the rectangular prism from `min` to `max`. Refused by 3, 9, 10.
 ///
+/// Near a prism whose longest side is over twice its shortest it may be the sum over two halves, and these over theirs: cut across the longest side, of
+/// equal ones the first of x, y, z. Sheets of kind 2 ([`Body::Prism`]) cut the last, so that where a piece has equal longest sides, as a square plate
+/// has, their rows may differ from this by rounding, and 10 may refuse other stations.
+///
 /// ```
 /// let far = physica::prism([1000.0, 0.0, 0.0], [-1.0; 3], [1.0; 3])?;
 /// assert!((far.potential - 8.0 / 1000.0).abs() < 1e-9);

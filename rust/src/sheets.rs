@@ -6,7 +6,7 @@ use crate::{answer_with, ffi, Refusal, Vector};
 pub enum Body<'a> {
     /// Kind 1: a closed mesh of triangles, wound outwards.
     Mesh { verts: &'a [Vector], faces: &'a [[u32; 3]] },
-    /// Kind 2: the rectangular prism from `min` to `max`.
+    /// Kind 2: the rectangular prism from `min` to `max`; of equal longest sides of a piece the last of x, y, z is cut, by [`crate::prism`] the first.
     Prism { min: Vector, max: Vector },
 }
 

@@ -351,12 +351,12 @@ fn prism_sides(v: &[f64]) -> bool {
     (0..3).all(|i| !(v[i + 3] - v[i] < 1e-6))
 }
 
-/// The row of a station, or 10 or 11.
+/// The row of a station, or 10 or 11. A prism of kind 2 halves the last of equal longest sides, as published.
 pub fn row(s: &Sheet, p: V3) -> Result<[f64; 8], u32> {
     let v = &s.mesh.verts;
     let (potential, g, t) = caught(|| match s.kind {
         1 => bodies::polyhedron(p, &points(v), &corners(&s.mesh.faces)),
-        _ => bodies::prism(p, v3(v), v3(&v[3..])),
+        _ => bodies::prism_last(p, v3(v), v3(&v[3..])),
     })?;
     let b = anomaly::body(t, s.magnetisation);
     Ok([potential, g[0], g[1], g[2], b[0], b[1], b[2], anomaly::total_field(s.ambient, b)])

@@ -123,7 +123,19 @@ fn numbers(r: &mut Random, name: &str, n: usize) -> Vec<f64> {
     }
 }
 
-/// Station, min, max: inside, on faces, edges and corners and their extensions, near, far, needles and plates, limits.
+/// A square plate across an axis, seen from near it: its longest sides are equal, as rounded.
+fn square_plate(r: &mut Random, size: f64) -> Vec<f64> {
+    let (axis, lo, thick) = (r.below(3), r.pick(&[0.0, 1.0, -0.3]) * size, size * r.magnitude(-4.5, -0.3));
+    let mut a = vec![0.0; 9];
+    for i in 0..3 {
+        a[i] = lo + if i == axis { thick * (1.0 + r.magnitude(-2.0, 1.5)) } else { r.between(-0.2, 1.2) * size };
+        a[3 + i] = lo;
+        a[6 + i] = lo + if i == axis { thick } else { size };
+    }
+    a
+}
+
+/// Station, min, max: inside, on faces, edges and corners and their extensions, near, far, needles and plates, equal longest sides, limits.
 fn prism(r: &mut Random) -> Vec<f64> {
     let size = r.magnitude(-3.0, 5.0);
     let mut a = vec![0.0; 9];
@@ -152,6 +164,7 @@ fn prism(r: &mut Random) -> Vec<f64> {
         1 => a = vec![0.0, 0.0, r.magnitude(-3.0, 1.0), -1e4, -1e4, -r.magnitude(-6.0, -2.0), 1e4, 1e4, 0.0],
         // sides at the limit
         2 => { let i = r.below(3); a[6 + i] = a[3 + i] + r.pick(&[1e-6, 9.99e-7, 1.01e-6, 0.0]); }
+        3..=7 => a = square_plate(r, size),
         _ => {}
     }
     a

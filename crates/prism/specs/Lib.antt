@@ -2,3 +2,4 @@
 pub mod Prism
 pub mod PrismRefusals
 pub mod StationNumber
+pub mod NoTies

@@ -14,7 +14,7 @@ use Rattle.newtonian.specs.declared.Vector.{Vector}
 use Rattle.newtonian.specs.declared.Newtonian.{Newtonian}
 use Rattle.prism_corner_sums.specs.declared.Bounds.{Bounds}
 use Rattle.prism_pieces.specs.declared.AxisRule.{AxisRule}
-use Rattle.prism_pieces.specs.declared.AxisRule.TheVariants.{LastOfEquals}
+use Rattle.prism_pieces.specs.declared.AxisRule.TheVariants.{FirstOfEquals}
 use Rattle.prism_pieces.specs.declared.Piece.{Piece}
 use Rattle.prism_pieces.specs.declared.Piece.TheVariants.{Whole, Halves}
 use Rattle.prism_pieces.specs.Choice.{piece_of}
@@ -70,6 +70,6 @@ prism_volume lo hi = (hi.x ⊖ lo.x) ⊗ (hi.y ⊖ lo.y) ⊗ (hi.z ⊖ lo.z)
 unfoldable pub cause_of : Vector → Vector → Vector → Cause
 cause_of p lo hi = or_else (unless (numbers_within_limits p lo hi) OutOfLimits) (unless (sides_within_limits lo hi) TooThin)
 
--- 3, 9, then the field or 10. A single point has the station number 0.
+-- 3, 9, then the field or 10. A single point has the station number 0, and by document 02's order 4 the first of equal longest axes is halved.
 unfoldable pub prism : Vector → Vector → Vector → Answer Newtonian
-prism p lo hi = or_answer (cause_of p lo hi) (prism_at LastOfEquals 0 p lo hi)
+prism p lo hi = or_answer (cause_of p lo hi) (prism_at FirstOfEquals 0 p lo hi)

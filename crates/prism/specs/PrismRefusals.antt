@@ -12,7 +12,7 @@ use Rattle.newtonian.specs.declared.Vector.{Vector}
 use Rattle.newtonian.specs.declared.Newtonian.{Newtonian}
 use Rattle.prism_corner_sums.specs.declared.Bounds.{Bounds}
 use Rattle.prism_pieces.specs.declared.AxisRule.{AxisRule}
-use Rattle.prism_pieces.specs.declared.AxisRule.TheVariants.{LastOfEquals}
+use Rattle.prism_pieces.specs.declared.AxisRule.TheVariants.{FirstOfEquals}
 use Rattle.prism_pieces.specs.declared.Piece.{Piece}
 use Rattle.prism_pieces.specs.declared.Piece.TheVariants.{Whole, Halves}
 use Rattle.prism_pieces.specs.Choice.{piece_of}
@@ -52,4 +52,4 @@ prism_in_order true true c h r e = inr (inr (h r e))
 
 pub prism-refused : (p lo hi : Vector) (r : Refusal) → prism p lo hi ≡ Err r → (r ≡ OutOfLimits) ⊎ ((r ≡ TooThin) ⊎ (r ≡ TooDeep 0))
 unfolding prism cause_of OnlyTooDeep
-prism-refused p lo hi r e = prism_in_order (numbers_within_limits p lo hi) (sides_within_limits lo hi) (prism_at LastOfEquals 0 p lo hi) (prism_at-refused LastOfEquals 0 p lo hi) r e
+prism-refused p lo hi r e = prism_in_order (numbers_within_limits p lo hi) (sides_within_limits lo hi) (prism_at FirstOfEquals 0 p lo hi) (prism_at-refused FirstOfEquals 0 p lo hi) r e

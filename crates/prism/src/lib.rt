@@ -86,12 +86,12 @@ fn cause_of(p: Vector, bounds: Bounds) -> Result<(), Refusal>
     Ok(())
 }
 
-// The field of the prism from min to max at a station, at unit Gρ; or refused by 3, 9 or 10.
+// The field of the prism from min to max at a station, at unit Gρ; or refused by 3, 9 or 10. Of equal longest sides the first is halved.
 #[tactic(auto, unfolding(crate::specs::Prism::prism))]
 pub fn prism(station: Vector, min: Vector, max: Vector) -> Result<Newtonian, Refusal>
     ensures { result ≡ prism station min max }
 {
     let bounds = Bounds { lo: min, hi: max };
     cause_of(station, bounds)?;
-    prism_at(AxisRule::LastOfEquals, 0, station, bounds)
+    prism_at(AxisRule::FirstOfEquals, 0, station, bounds)
 }

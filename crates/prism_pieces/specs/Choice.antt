@@ -1,7 +1,7 @@
 -- The choice of the way in which the field of a prism, or of a piece of one, is taken: `piece_of`. Outside the prism it is a Gauss-Legendre cubature, where that is
 -- affordable; else it is the corner sums, unless the station is outside, the prism is long and the sums are too rough: then the prism is to be bisected, which crate
--- prism does with the two halves given here. The formulas are those of the Rust's `prism`, with its roundings. p is the station; lo and hi are the corners min and
--- max. Definitions only.
+-- prism does with the two halves given here. The formulas are those of the Rust's `prism`, with its roundings, but for `first_longest`, which document 02 has. p is the
+-- station; lo and hi are the corners min and max. Definitions only.
 use Rattle.std.specs.Prelude.{ℕ, ◌+◌, ◌*◌, Bool, cond, ◌&&◌, leb, pos, Float}
 use Rattle.std.specs.Float.{binary64}
 use Rattle.std.specs.Float.Ieee.{neg, lt, le, of_int}
@@ -16,7 +16,7 @@ use Rattle.newtonian.specs.declared.Vector.{Vector}
 use Rattle.prism_corner_sums.specs.CornerSums.{upper_x, upper_y, upper_z, corner_sums}
 use Rattle.prism_cubature.specs.Cubature.{half_widths, cubature}
 use Rattle.prism_pieces.specs.declared.AxisRule.{AxisRule}
-use Rattle.prism_pieces.specs.declared.AxisRule.TheVariants.{LastOfEquals}
+use Rattle.prism_pieces.specs.declared.AxisRule.TheVariants.{LastOfEquals, FirstOfEquals}
 use Rattle.prism_pieces.specs.declared.Axis.{Axis}
 use Rattle.prism_pieces.specs.declared.Axis.TheVariants.{X, Y, Z}
 use Rattle.prism_pieces.specs.declared.Piece.{Piece}
@@ -64,13 +64,18 @@ affordable l m n = leb l max_order && (leb m max_order && (leb n max_order && le
 
 -- ---- the longest and the shortest axis
 
--- the axis of the largest half-width, and of equal ones the last
+-- document 01: the axis of the largest half-width, and of equal ones the last
 unfoldable pub last_longest : Vector → Axis
 last_longest h = cond (le h.x h.y) (cond (le h.y h.z) Z Y) (cond (le h.x h.z) Z X)
 
--- the axis of the largest half-width, by a rule for equal ones (`longest_chosen` in ChoiceLaws)
+-- document 02, order 4: the axis of the largest half-width, and of equal ones the first
+unfoldable pub first_longest : Vector → Axis
+first_longest h = cond (le h.y h.x) (cond (le h.z h.x) X Z) (cond (le h.z h.y) Y Z)
+
+-- the axis of the largest half-width, by a rule for equal ones (`longest-is` in ChoiceLaws)
 unfoldable pub longest : AxisRule → Vector → Axis
 longest LastOfEquals h = last_longest h
+longest FirstOfEquals h = first_longest h
 
 unfoldable pub shortest : Vector → Float
 shortest h = min (min (min +∞ h.x) h.y) h.z

@@ -4,7 +4,7 @@
 #![tactic(auto)]
 
 ghost use Rattle.std.specs.Prelude.{◌≡◌};
-ghost use Rattle.prism_pieces.specs.Choice.{squared_outside, distance, ceiling, axis_order, affordable, last_longest, longest, shortest, along, with, corner_distance, farthest_corner, too_rough, bisected, piece_near, piece_outside, piece_of};
+ghost use Rattle.prism_pieces.specs.Choice.{squared_outside, distance, ceiling, axis_order, affordable, last_longest, first_longest, longest, shortest, along, with, corner_distance, farthest_corner, too_rough, bisected, piece_near, piece_outside, piece_of};
 
 use lanes::pick;
 use newtonian::{Newtonian, Vector};
@@ -14,6 +14,7 @@ use prism_corner_sums::Bounds;
 #[derive(Clone, Copy, Debug, PartialEq, Eq)]
 pub enum AxisRule {
     LastOfEquals,
+    FirstOfEquals,
 }
 
 #[derive(Clone, Copy, Debug, PartialEq, Eq)]
@@ -103,12 +104,24 @@ fn last_longest(h: Vector) -> Axis
     }
 }
 
+#[tactic(auto, unfolding(crate::specs::Choice::first_longest))]
+fn first_longest(h: Vector) -> Axis
+    ensures { result ≡ first_longest h }
+{
+    if h.x >= h.y {
+        if h.x >= h.z { Axis::X } else { Axis::Z }
+    } else {
+        if h.y >= h.z { Axis::Y } else { Axis::Z }
+    }
+}
+
 #[tactic(auto, unfolding(crate::specs::Choice::longest))]
 fn longest(rule: AxisRule, h: Vector) -> Axis
     ensures { result ≡ longest rule h }
 {
     match rule {
         AxisRule::LastOfEquals => last_longest(h),
+        AxisRule::FirstOfEquals => first_longest(h),
     }
 }
 

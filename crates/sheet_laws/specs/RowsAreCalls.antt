@@ -1,6 +1,8 @@
--- A row of an accepted sheet is what the single-point calls answer at its station: `polyhedron` or `prism` the field, and of the field and the sheet's magnetisation
--- and ambient field `body`'s formula, with the constant of the sheet's kind, and `total_field`'s. Assumes nothing. States:
--- `FieldFromCalls s i g`: the public call, with the body of s, answers the field g at station i;
+-- A row of an accepted sheet is what the single-point calls answer at its station: the field is that of `polyhedron`, or of `prism` with the kind's rule for equal
+-- longest sides, and the other numbers are, of the field and the sheet's magnetisation and ambient field, `body`'s formula, with the constant of the sheet's kind, and
+-- `total_field`'s. Assumes nothing. States:
+-- `FieldFromCalls s i g`: the public call, with the body of s, answers the field g at station i; of a prism by the kind's rule, and by the public call's own where no
+-- piece that is bisected has equal longest sides (`NoTies`);
 -- `RowFromCalls b i`: that is so of what the sheet b holds, for some field, and the bytes of row i are the bits of the row made from that field;
 -- `rows_are_calls`: so it is of every row of an accepted sheet; `written-rows`: and of one that the writer wrote;
 -- `row_elsewhere`: a station has the same row among other stations, under whatever number, where kind, body, magnetisation and ambient field are the same;
@@ -21,8 +23,9 @@ use Rattle.anomaly.specs.Limits.{both_within_limits, hessian_within_limits}
 use Rattle.anomaly.specs.Body.{μ₀/4π, body_of, body}
 use Rattle.anomaly.specs.TotalField.{total_field_of, total_field}
 use Rattle.prism_pieces.specs.declared.AxisRule.{AxisRule}
-use Rattle.prism_pieces.specs.declared.AxisRule.TheVariants.{LastOfEquals}
-use Rattle.prism.specs.Prism.{prism_at, numbers_within_limits, side_within_limits, sides_within_limits, cause_of, prism}
+use Rattle.prism_pieces.specs.declared.AxisRule.TheVariants.{FirstOfEquals}
+use Rattle.prism.specs.NoTies.{NoTies, prism_at-no_ties}
+use Rattle.prism.specs.Prism.{max_bisections, prism_at, numbers_within_limits, side_within_limits, sides_within_limits, cause_of, prism}
 use Rattle.prism.specs.StationNumber.{prism_at-value}
 use Rattle.mesh.specs.Surface.{vertex}
 use Rattle.mesh.specs.Accepted.{Counted}
@@ -55,9 +58,9 @@ prism_by rule p lo hi = or_answer (cause_of p lo hi) (prism_at rule 0 p lo hi)
 pub record FieldFromCalls (s : SheetInput) (i : ℕ) (g : Newtonian) : Type 0 where
   -- with a work list of 3F entries or more
   pub of_mesh : is_mesh s.kind ≡ true → (n : ℕ) → length s.faces ≤ n → polyhedron (station_at s i) s.vertices s.faces n ≡ Ok g
-  -- from vertex 0 to vertex 1, by the kind's rule for the longest axis; and by the public call itself where that is its rule
+  -- from vertex 0 to vertex 1, by the kind's rule for the longest axis; and by the public call itself where no piece that is bisected has equal longest sides
   pub by_rule : is_prism s.kind ≡ true → prism_by (axis_rule s.kind) (station_at s i) (vertex s.vertices 0) (vertex s.vertices 1) ≡ Ok g
-  pub of_prism : is_prism s.kind ≡ true → axis_rule s.kind ≡ LastOfEquals
+  pub of_prism : is_prism s.kind ≡ true → NoTies max_bisections (station_at s i) (vertex s.vertices 0) (vertex s.vertices 1)
       → prism (station_at s i) (vertex s.vertices 0) (vertex s.vertices 1) ≡ Ok g
 
 pub record RowFromCalls (b : List ℕ) (i : ℕ) : Type 0 where
@@ -117,7 +120,8 @@ module _ (s : SheetInput) (w o : ℕ) (h : NoCause s w o) (i : ℕ) (l : i < sta
     field-from_calls = record {
       of_mesh = λ k n room. rw (mesh-none k n room) (mesh-field k);
       by_rule = λ k. rw (prism-none k) (prism-field k);
-      of_prism = λ k r. rw (prism-none k) (rw r at (prism-field k));
+      of_prism = λ k t.
+          rw (prism-none k) (prism_at-no_ties 0 p (vertex s.vertices 0) (vertex s.vertices 1) t FirstOfEquals (axis_rule s.kind) ∙ prism-field k);
     }
 
 -- ---- so it is of each row

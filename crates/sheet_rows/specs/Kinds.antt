@@ -35,7 +35,8 @@ row_width kind = plain_width
 abbrev pub max_width : ℕ
 max_width = plain_width
 
--- of equal sides, the one that a prism is halved across
+-- of equal longest sides, the one that a prism is halved across: the last for both kinds, since printed sheets of kind 2 were made so and must go on being accepted
+-- (`prism` itself takes the first)
 unfoldable pub axis_rule : ℕ → AxisRule
 axis_rule kind = LastOfEquals
 

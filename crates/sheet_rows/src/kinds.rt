@@ -47,7 +47,7 @@ pub fn row_length(kind: u32) -> usize
     PLAIN_BYTES
 }
 
-// Of equal sides, the one that a prism is halved across.
+// Of equal longest sides, the one that a prism is halved across: the last, as in printed sheets of kind 2; `prism` itself takes the first.
 #[tactic(auto, unfolding(crate::specs::Kinds::axis_rule))]
 pub fn axis_rule(kind: u32) -> AxisRule
     ensures { result ≡ axis_rule kind }
