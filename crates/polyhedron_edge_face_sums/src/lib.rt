@@ -6,12 +6,12 @@ ghost use Rattle.mesh.specs.Surface.{face_count};
 ghost use Rattle.polyhedron_edge_terms.specs.EdgeTerms.{logarithm};
 ghost use Rattle.polyhedron_edge_terms.specs.declared.Corner.{Corner};
 ghost use Rattle.polyhedron_edge_face_sums.specs.EdgeFaceSums.{Sums, no_faces, triangle_of, add_side, add_triangle, sums_of, edge_face_sums};
-ghost use Rattle.polyhedron_edge_face_sums.specs.Carried.{Carries, Adds};
+ghost use Rattle.polyhedron_edge_face_sums.specs.Carried.{Carries, CarriesIn, Adds};
 
 use mesh::surface::{FaceRange, Mesh};
 use newtonian::{Newtonian, Vector, dot};
 use polyhedron_edge_terms::{Corner, Side};
-use polyhedron_on_edge::{EDGE_LIMIT, Edges};
+use polyhedron_on_edge::{BLOCK, EDGE_LIMIT, Edges};
 use refusals::Refusal;
 
 // What of a face does not depend on the station: its corners, its unit normal and its sides.
@@ -48,6 +48,26 @@ fn triangle_of(mesh: Mesh, k: usize) -> Triangle
         bc: polyhedron_edge_terms::side_of(normal, b, c, j, l),
         ca: polyhedron_edge_terms::side_of(normal, c, a, l, i),
     }
+}
+
+// The field at a station of number i, of which all faces are added: to field, and to the first count edges of a block. Their keys may lie elsewhere.
+pub fn near_field(
+    i: u32,
+    field: Newtonian,
+    dyads: &[f64; BLOCK],
+    count: usize,
+) -> Result<Newtonian, Refusal>
+    ensures { (p : Vector) (v : List Float) (f : List ℕ) (keys : List ℕ) → CarriesIn (sums_of p v f) keys dyads.now field count → result ≡ edge_face_sums i p v f }
+{
+    if EDGE_LIMIT < count {
+        return Err(Refusal::TooManyEdges(i));
+    }
+    let t = polyhedron_on_edge::add_infinite(field.hessian, dyads, count);
+    Ok(Newtonian {
+        potential: field.potential,
+        gradient: field.gradient,
+        hessian: polyhedron_edge_terms::symmetric(t),
+    })
 }
 
 // What the faces so far add up to at a station: the field, and the edges that gave a logarithm that is not finite.
@@ -113,14 +133,6 @@ impl Running {
     pub fn near_field(&self, i: u32) -> Result<Newtonian, Refusal>
         ensures { (p : Vector) (v : List Float) (f : List ℕ) → Carries (sums_of p v f) self.now → result ≡ edge_face_sums i p v f }
     {
-        if EDGE_LIMIT < self.edges.count {
-            return Err(Refusal::TooManyEdges(i));
-        }
-        let t = self.edges.add_infinite(self.field.hessian);
-        Ok(Newtonian {
-            potential: self.field.potential,
-            gradient: self.field.gradient,
-            hessian: polyhedron_edge_terms::symmetric(t),
-        })
+        near_field(i, self.field, self.edges.block(), self.edges.count)
     }
 }

@@ -1,11 +1,12 @@
--- The edges that are held: what each answer of `Edges::add` does to them. Assumes nothing.
+-- The edges that are held: what the count says, what `add_infinite` makes of them, and what each answer of `Edges::add` does to them. Assumes nothing.
 use Rattle.std.proofs.Common.{◌≡◌, ◌≢◌, ◌∙◌, ap, refl, subst, sym, ℕ, suc, zero, ◌+◌, ◌<◌, ◌≤◌, Bool, true, false, cond, List, [], ◌∷◌, ◌++◌, length, get_or, set, drop, ⊎_elim, add-one, arith, eq-eqb, eqb, ne_eqb, length-append, length-set, drop-cons}
+use lib.Ieee.{Float}
 use lib.ListN.{get_or-append}
 use lib.Seq.{drop-length, get_or_at, get_or-set_other, get_or-set_same}
 use Rattle.lists.proofs.Numbers.{below?, same?}
 use Rattle.newtonian.specs.declared.Hessian.{Hessian}
-use Rattle.polyhedron_on_edge.specs.Block.{dyad_in}
-use Rattle.polyhedron_on_edge.specs.Held.{HoldsEdges, no_edge}
+use Rattle.polyhedron_on_edge.specs.Block.{dyad_in, edge_of_block, HoldsEdgesIn, no_edge}
+use Rattle.polyhedron_on_edge.specs.Held.{HoldsEdges}
 use Rattle.polyhedron_on_edge.specs.OnEdge.{Edge, add_dyad, add_infinite, add_matrices, edge_limit, infinite_entries}
 use Rattle.polyhedron_on_edge.specs.declared.Edges.{Edges}
 
@@ -41,18 +42,45 @@ edge_ext p q = cc
 
 -- ---- what the count says
 
+module _ (es : List Edge) (keys : List ℕ) (dyads : List Float) (n : ℕ) (h : HoldsEdgesIn es keys dyads n) where
+  pub few_in : n ≤ edge_limit → length es ≤ edge_limit
+  few_in l = ⊎_elim (λ p. absurd (omega (arith, h.many p))) (λ p. p) (below? edge_limit (length es))
+
+  count_in : n ≤ edge_limit → n ≡ length es
+  count_in l = h.few (few_in l)
+
+  entry_in : n ≤ edge_limit → (i : ℕ) → i < n → edge_of_block keys dyads i ≡ get_or es i no_edge
+  entry_in l i p = h.entries (few_in l) i (omega (arith, count_in l))
+
+  -- ---- the loop of `add_infinite`
+
+  pub infinite_more : n ≤ edge_limit → (i : ℕ) → i < n → (t : Hessian) → add_infinite (drop (i + 1) es) (infinite_entries t (dyad_in dyads i)) ≡ add_infinite (drop i es) t
+  unfolding add_infinite
+  infinite_more l i p t =
+      let c : i < length es = omega (arith, count_in l) in
+      rw (add-one, ap (λ (e : Edge). e.dyad) (entry_in l i p), drop-cons es i no_edge)
+
+  pub infinite_end : n ≤ edge_limit → (t : Hessian) → add_infinite (drop n es) t ≡ t
+  unfolding add_infinite
+  infinite_end l t = rw (count_in l, drop-length)
+
+-- ---- the edges that are held
+
 module _ (es : List Edge) (held : Edges) (h : HoldsEdges es held) where
+  pub held_in : HoldsEdgesIn es held.keys held.dyads held.count
+  held_in = record { many = h.many; few = h.few; entries = h.entries }
+
   pub held_few : held.count ≤ edge_limit → length es ≤ edge_limit
-  held_few l = ⊎_elim (λ p. absurd (omega (arith, h.many p))) (λ p. p) (below? edge_limit (length es))
+  held_few = few_in es held.keys held.dyads held.count held_in
 
   held_count : held.count ≤ edge_limit → held.count ≡ length es
-  held_count l = h.few (held_few l)
+  held_count = count_in es held.keys held.dyads held.count held_in
 
   held_key : held.count ≤ edge_limit → (i : ℕ) → i < held.count → get_or held.keys i 0 ≡ (get_or es i no_edge).key
-  held_key l i p = ap (λ (e : Edge). e.key) (h.entries (held_few l) i (omega (arith, held_count l)))
+  held_key l i p = ap (λ (e : Edge). e.key) (entry_in es held.keys held.dyads held.count held_in l i p)
 
   held_dyad : held.count ≤ edge_limit → (i : ℕ) → i < held.count → dyad_in held.dyads i ≡ (get_or es i no_edge).dyad
-  held_dyad l i p = ap (λ (e : Edge). e.dyad) (h.entries (held_few l) i (omega (arith, held_count l)))
+  held_dyad l i p = ap (λ (e : Edge). e.dyad) (entry_in es held.keys held.dyads held.count held_in l i p)
 
   -- ---- the four answers
 
@@ -123,15 +151,3 @@ module _ (es : List Edge) (held : Edges) (h : HoldsEdges es held) where
                   ∙ sym (get_or-append es (new ∷ []) no_edge i (omega arith))))
                   (same? i held.count);
             }
-
-  -- ---- the loop of `add_infinite`
-
-  pub infinite_more : held.count ≤ edge_limit → (i : ℕ) → i < held.count → (t : Hessian) → add_infinite (drop (i + 1) es) (infinite_entries t (dyad_in held.dyads i)) ≡ add_infinite (drop i es) t
-  unfolding add_infinite
-  infinite_more l i p t =
-      let c : i < length es = omega (arith, held_count l) in
-      rw (add-one, held_dyad l i p, drop-cons es i no_edge)
-
-  pub infinite_end : held.count ≤ edge_limit → (t : Hessian) → add_infinite (drop held.count es) t ≡ t
-  unfolding add_infinite
-  infinite_end l t = rw (held_count l, drop-length)

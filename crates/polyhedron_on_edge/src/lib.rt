@@ -4,7 +4,7 @@
 ghost use Rattle.std.specs.Prelude.{◌≡◌, [], List, ℕ, suc, ◌≢◌, ◌<◌, ◌≤◌, length, get_or, MatchOption, slice_index};
 ghost use Rattle.newtonian.specs.Numbers.{hessian_of};
 ghost use Rattle.polyhedron_on_edge.specs.OnEdge.{edge_limit, edge_key, Edge, add_matrices, add_dyad, infinite_entry, infinite_row, infinite_entries, add_infinite};
-ghost use Rattle.polyhedron_on_edge.specs.Block.{dyad_in};
+ghost use Rattle.polyhedron_on_edge.specs.Block.{dyad_in, HoldsEdgesIn};
 
 use mesh_orders::edges::number;
 use newtonian::{Hessian, Vector, add_vectors};
@@ -67,6 +67,19 @@ fn infinite_entries(t: Hessian, e: Hessian) -> Hessian
     }
 }
 
+// The Hessian with the entries that the first count edges of a block make infinite. Their keys may lie elsewhere.
+pub fn add_infinite(t: Hessian, dyads: &[f64; BLOCK], count: usize) -> Hessian
+    requires { count ≤ edge_limit }
+    ensures { (es : List Edge) (keys : List ℕ) → HoldsEdgesIn es keys dyads.now count → result ≡ add_infinite es t }
+{
+    let (all, _) = dyads.as_chunks::<9>();
+    let mut sums = t;
+    for d in &all[..count] {
+        sums = infinite_entries(sums, Hessian::from(*d));
+    }
+    sums
+}
+
 // The edges that a station has met, as a list of at most EDGE_LIMIT and the count of it; past the limit the count alone says
 // that they are too many. Keys and dyads past the count are not read, so a walk may begin with whatever another left there.
 #[derive(Clone, Copy)]
@@ -96,6 +109,13 @@ impl Edges {
     {
         let (dyads, _) = self.dyads.as_chunks::<9>();
         dyads
+    }
+
+    // The block of those sums, lent: the count says how much of it to read.
+    pub fn block(&self) -> &[f64; BLOCK]
+        ensures { result.now ≡ self.now.dyads }
+    {
+        &self.dyads
     }
 
     // The sum that edge i has.
@@ -150,10 +170,6 @@ impl Edges {
         requires { self.now.count ≤ edge_limit }
         ensures { (es : List Edge) → HoldsEdges es self.now → result ≡ add_infinite es t }
     {
-        let mut sums = t;
-        for d in &self.dyads()[..self.count] {
-            sums = infinite_entries(sums, Hessian::from(*d));
-        }
-        sums
+        add_infinite(t, &self.dyads, self.count)
     }
 }

@@ -1,5 +1,6 @@
 -- The handle, moved row after row, gives the rows of the sheet, whatever the bytes: `row_after-row`, at the end. Assumes nothing.
-use Rattle.std.specs.Prelude.{◌≡◌, List, [], ◌∷◌, length, take, drop}
+use Rattle.std.specs.Prelude.{◌≡◌, List, [], ◌∷◌, ◌++◌, length, get_or, take, drop}
+use Rattle.std.specs.List.{concat}
 use Rattle.std.proofs.Math.Path.{refl, ap}
 use Rattle.std.proofs.Common.{sym, ◌∙◌, length-drop, length-take-le}
 use Rattle.std.proofs.Math.Logic.{⊎_elim}
@@ -7,6 +8,7 @@ use Prim.Native.Nat.{ℕ, zero, suc, ◌+◌, ◌-◌, ◌*◌, ◌≤◌, ◌<�
 use native.Mathlib.Omega.{arith}
 use Rattle.std.proofs.Math.Numerals.{add-one}
 use Rattle.std.proofs.Math.Seq.{take-add, drop-drop}
+use Rattle.std.proofs.lemmas.List.{append-nil, append_assoc}
 use borrow.Author.Tests.{lt-ltb, le-ltb}
 use Rattle.refusals.specs.declared.Refusal.{Refusal}
 use Rattle.std.specs.Prelude.{Ok, Err}
@@ -128,6 +130,36 @@ module _ (b : List ℕ) where
   unfolding rows_left
   one-left i h = let z : row_count b - i ≡ suc (row_count b - (i + 1)) = omega arith in rw z
 
+  listed : (n i : ℕ) → length (rows_left b n i) ≡ n
+  unfolding rows_left
+  listed zero i = refl
+  listed (suc n) i = ap suc (listed n (i + 1))
+
+  left_at : (n i k : ℕ) → k < n → get_or (rows_left b n i) k [] ≡ row_part b (i + k)
+  unfolding rows_left
+  left_at zero i k h = absurd (omega arith)
+  left_at (suc n) i zero h = let e : i ≡ i + 0 = omega arith in ap (row_part b) e
+  left_at (suc n) i (suc k) h = let e : i + 1 + k ≡ i + suc k = omega arith in left_at n (i + 1) k (omega arith) ∙ ap (row_part b) e
+
+  -- the parts of the moves so far, and then the rows that are left, are those of all moves
+  left_joined : (n i : ℕ) → joined_parts b i ++ concat (rows_left b n i) ≡ joined_parts b (i + n)
+  unfolding rows_left joined_parts
+  left_joined zero i = let e : i ≡ i + 0 = omega arith in append-nil (joined_parts b i) ∙ ap (joined_parts b) e
+  left_joined (suc n) i =
+      let e : suc i + n ≡ i + suc n = omega arith in
+      sym (append_assoc (joined_parts b i) (row_part b i) (concat (rows_left b n (i + 1))))
+      ∙ ap (λ (xs : List ℕ). joined_parts b i ++ xs ++ concat (rows_left b n (i + 1))) (sym (numbered i))
+      ∙ ap (λ (k : ℕ). joined_parts b (suc i) ++ concat (rows_left b n k)) (add-one i)
+      ∙ left_joined n (suc i)
+      ∙ ap (joined_parts b) e
+
+  in_turn : (n : ℕ) → n < row_count b → get_or (rows_from b 0) n [] ≡ part_after b n
+  in_turn n h = let e : 0 + n ≡ n = omega arith in left_at (row_count b - 0) 0 n (omega arith) ∙ ap (row_part b) e ∙ sym (numbered n)
+
+  together : concat (rows_from b 0) ≡ rows_part b
+  unfolding joined_parts
+  together = let e : 0 + (row_count b - 0) ≡ row_count b = omega arith in left_joined (row_count b - 0) 0 ∙ ap (joined_parts b) e ∙ joined (opening_cause b) refl
+
 pub row_after-row : (b : List ℕ) → RowAfterRow b
 row_after-row b = record {
   accepted = accepted b;
@@ -137,4 +169,7 @@ row_after-row b = record {
   empty = empty b;
   joined = joined b (opening_cause b) refl;
   numbered = numbered b;
+  listed = let e : row_count b - 0 ≡ row_count b = omega arith in listed b (row_count b - 0) 0 ∙ e;
+  in_turn = in_turn b;
+  together = together b;
 }

@@ -1,6 +1,7 @@
 -- The handle on the bytes `b` of a sheet: it stands at a row, gives that row's part of the sheet (`row_part` of the checker's definitions), and moves to the next. Definitions only;
 -- `Laws` shows `RowAfterRow` of every list of bytes.
-use Rattle.std.specs.Prelude.{◌≡◌, cond, List, [], ◌∷◌, ◌++◌, ℕ, zero, suc, ◌+◌, ◌-◌, ◌≤◌, ◌<◌, ltb, length}
+use Rattle.std.specs.Prelude.{◌≡◌, cond, List, [], ◌∷◌, ◌++◌, ℕ, zero, suc, ◌+◌, ◌-◌, ◌≤◌, ◌<◌, ltb, length, get_or}
+use Rattle.std.specs.List.{concat}
 use Rattle.std.specs.Prelude.{Ok, Err}
 use Rattle.refusals.specs.Causes.{Cause}
 use Rattle.sheet.specs.Checker.{stations_in, row_length, checker_cause, opening_cause, rows_part, row_part}
@@ -41,7 +42,8 @@ module _ (b : List ℕ) where
   abbrev pub rows_from : ℕ → List (List ℕ)
   rows_from i = rows_left (row_count - i) i
 
--- row after row from the first, the handle gives exactly as many parts as there are rows, each a whole row, and then only empty ones; joined they are the rows
+-- row after row from the first, the handle gives exactly as many parts as there are rows, each a whole row, and then only empty ones; joined they are the rows. The iterator over
+-- the rows (`rows_from`) gives the same parts in the same order, and then ends
 pub record RowAfterRow (b : List ℕ) : Type 0 where
   -- of a sheet that the checker accepts there are S
   pub accepted : checker_cause b ≡ Ok tt → row_count b ≡ stations_in b
@@ -52,3 +54,6 @@ pub record RowAfterRow (b : List ℕ) : Type 0 where
   pub joined : joined_parts b (row_count b) ≡ rows_part b
   -- by number it is the same part
   pub numbered : (n : ℕ) → part_after b n ≡ row_part b n
+  pub listed : length (rows_from b 0) ≡ row_count b
+  pub in_turn : (n : ℕ) → n < row_count b → get_or (rows_from b 0) n [] ≡ part_after b n
+  pub together : concat (rows_from b 0) ≡ rows_part b

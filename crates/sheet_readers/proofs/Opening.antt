@@ -57,9 +57,8 @@ module _ (b : List ℕ) where
   unfolding trailer_fields
   in_trailer t e = rw e (record { kind = refl; vertices = refl; faces = refl; stations = refl; magnetisation = refl; ambient = refl; volume = refl })
 
-  pub pointer_read : (t : TrailerFields) → t ≡ trailer_fields b → pointer_of t.kind t.vertices t.faces t.stations ≡ pointer_for b
-  unfolding trailer_fields
-  pointer_read t e = ap (λ (u : TrailerFields). pointer_of u.kind u.vertices u.faces u.stations) e
+  pub pointer_read : (k v f s : ℕ) → k ≡ kind_in b → v ≡ vertices_in b → f ≡ faces_in b → s ≡ stations_in b → pointer_of k v f s ≡ pointer_for b
+  pointer_read k v f s p q r t = ap (λ (x : ℕ). pointer_of x v f s) p ∙ rw (q, r, t)
 
   -- ---- as the code tests it
 

@@ -33,6 +33,7 @@ pub struct TrailerFields {
 
 impl TrailerFields {
     // Of bytes that are long enough for a trailer, whatever they hold.
+    #[inline(always)]
     #[tactic(auto, unfolding(crate::specs::Parts::trailer_fields))]
     pub fn read(bytes: &[u8]) -> Self
         requires { trailer_length ≤ length bytes.now }

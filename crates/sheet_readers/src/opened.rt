@@ -8,7 +8,7 @@ ghost use Rattle.sheet_readers.specs.Parts.{InTrailer, station_start, station_pa
 use crate::{TrailerFields, pointer_of, rows_length};
 use refusals::Refusal;
 use sheet::{FACE_LENGTH, STATION_LENGTH, TRAILER_LENGTH, VERTEX_LENGTH};
-use sheet_layout::u64_at;
+use sheet_layout::{u32_at, u64_at};
 
 // The bytes, and what stands in their trailer.
 #[derive(Clone, Copy)]
@@ -19,7 +19,8 @@ pub struct Sheet<'a> {
     pub ghost read: { InTrailer bytes.now trailer },
 }
 
-// The trailer, or cause 16.
+// The trailer, or cause 16. The numbers are read last, so that bytes that 16 refuses do not pay for them.
+#[inline(always)]
 fn whole_trailer(bytes: &[u8]) -> Result<TrailerFields, Refusal>
     ensures { result ≡ or_answer (wrong_length bytes.now) (Ok (trailer_fields bytes.now)) }
 {
@@ -27,19 +28,25 @@ fn whole_trailer(bytes: &[u8]) -> Result<TrailerFields, Refusal>
     if n < TRAILER_LENGTH {
         return Err(Refusal::WrongLength);
     }
-    let t = TrailerFields::read(bytes);
-    let before = pointer_of(t.kind, t.vertices, t.faces, t.stations);
-    if u64_at(bytes, n - TRAILER_LENGTH + 72) != before as u64 {
+    let at = n - TRAILER_LENGTH;
+    let before = pointer_of(
+        u32_at(bytes, at),
+        u32_at(bytes, at + 4),
+        u32_at(bytes, at + 8),
+        u32_at(bytes, at + 12),
+    );
+    if u64_at(bytes, at + 72) != before as u64 {
         return Err(Refusal::WrongLength);
     }
     if n != before + TRAILER_LENGTH {
         return Err(Refusal::WrongLength);
     }
-    Ok(t)
+    Ok(TrailerFields::read(bytes))
 }
 
 impl<'a> Sheet<'a> {
-    // Or the cause 16, 1 or 2.
+    // Or the cause 16, 1 or 2. Inlined, so that who needs the counts alone does not pay for the numbers.
+    #[inline(always)]
     pub fn open(bytes: &'a [u8]) -> Result<Self, Refusal>
         ensures { MatchResult result (λ s. (s.bytes.now ≡ bytes.now) × (opening_cause bytes.now ≡ Ok tt)) (λ r. opening_cause bytes.now ≡ Err r) }
     {

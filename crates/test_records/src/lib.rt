@@ -44,33 +44,32 @@ impl Profile<'_> {
         self.order + self.faces + 16 * runs::length_at(self.line, 8 + i)
     }
 
-    pub fn read_stations(&self, stations: &mut [f64]) -> Option<()>
+    pub fn read_stations(&self, stations: &mut [f64])
         requires { length stations.old ≤ 1000 }
     {
         for (i, x) in stations.iter_mut().enumerate() {
-            *x = double_at(self.body, self.station_place(i / 3) + i % 3)?;
+            *x = double_at(self.body, self.station_place(i / 3) + i % 3);
         }
-        Some(())
     }
 
     // What fields should hold at i afterwards, where so many records are filled.
-    fn field_after(&self, filled: usize, i: usize) -> Option<u64>
+    fn field_after(&self, filled: usize, i: usize) -> u64
         requires { i ≤ 1000 }
     {
         if i / 13 < filled {
             return word_at(self.body, self.station_place(i / 13) + 3 + i % 13);
         }
-        Some(field_mark(i))
+        field_mark(i)
     }
 
     // What work should hold at i afterwards, whose first n entries are the order list.
-    fn work_after(&self, n: usize, i: usize) -> Option<u64>
+    fn work_after(&self, n: usize, i: usize) -> u64
         requires { i ≤ 1000 }
     {
         if i < n {
             return word_at(self.body, self.order + i);
         }
-        Some(u64::from(runs::work_mark(i)))
+        u64::from(runs::work_mark(i))
     }
 
     // Whether work and fields are right.
@@ -78,15 +77,15 @@ impl Profile<'_> {
         requires { (length work.now ≤ 1000) × (length fields.now ≤ 1000) }
     {
         let filled = runs::length_at(self.line, 6);
-        let sorted = if word_at(self.line, 7) == Some(0) {
+        let sorted = if word_at(self.line, 7) == 0 {
             0
         } else {
             self.faces
         };
         let same_work = work.iter().enumerate().all(|(i, entry)| self.work_after(sorted, i)
-            == Some(u64::from(*entry)));
+            == u64::from(*entry));
         let same_fields = fields.iter().enumerate().all(|(i, x)| self.field_after(filled, i)
-            == Some(doubles::to_bits(*x)));
+            == doubles::to_bits(*x));
         same_work && same_fields
     }
 

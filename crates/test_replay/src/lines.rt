@@ -29,13 +29,13 @@ pub struct Tally {
 }
 
 impl Tally {
-    // One line more of the call, which agrees or differs: it differs where a number is missing. A line of no such call counts nowhere.
-    pub fn count(&mut self, call: Option<u64>, agrees: Option<bool>) {
-        let Some(i) = call.and_then(|call| usize::try_from(call).ok()) else {
+    // One line more of the call, which agrees or differs. A line of no such call counts nowhere.
+    pub fn count(&mut self, call: u64, agrees: bool) {
+        let Ok(i) = usize::try_from(call) else {
             return;
         };
         if let Some(counted) = self.calls.get_mut(i) {
-            counted.add(agrees == Some(true));
+            counted.add(agrees);
         }
     }
 
@@ -66,6 +66,9 @@ pub fn read<const N: usize>(input: &mut impl Read) -> Option<[u8; N]> {
     Some(bytes)
 }
 
+// At most so many lines of a list are replayed, and what follows them is not read: an input without end has a report too.
+const MOST_LINES: usize = 1_000_000;
+
 // Goes through a list, of which `next` reads and counts a line, until it finds none.
 pub fn replay<R: Read, F: FnMut(&mut R, &mut Tally) -> Option<()>>(
     input: &mut R,
@@ -74,8 +77,7 @@ pub fn replay<R: Read, F: FnMut(&mut R, &mut Tally) -> Option<()>>(
     requires { F.IsAlwaysCallable next }
 {
     let mut tally = Tally::default();
-    // A proved loop has to end: the turns are counted up to a number that no list reaches.
-    for _ in 0..u64::MAX {
+    for _ in 0..MOST_LINES {
         if next(input, &mut tally).is_none() {
             break;
         }
@@ -83,21 +85,20 @@ pub fn replay<R: Read, F: FnMut(&mut R, &mut Tally) -> Option<()>>(
     tally
 }
 
-// Reads the rest of a line, which has lists of these lengths and `more` numbers besides, and answers whether it agrees. None where it is not there.
-pub fn next_agrees<F: Fn(&[u8], Lengths) -> Option<bool>>(
+// Reads the rest of a line, which has lists of these lengths and `more` numbers besides, and answers whether it is there and agrees.
+pub fn next_agrees<F: Fn(&[u8], Lengths) -> bool>(
     input: &mut impl Read,
     lengths: Lengths,
     more: usize,
     agrees: F,
-) -> Option<bool>
+) -> bool
     requires few { more ≤ 16 }
     requires callable { F.IsAlwaysCallable agrees }
 {
     let numbers = lengths.vertices + lengths.faces + lengths.work + more;
     let mut bytes = [0; 65536];
     let line = &mut bytes[..17 * numbers];
-    input.read_exact(line).ok()?;
-    agrees(line, lengths)
+    input.read_exact(line).is_ok() && agrees(line, lengths)
 }
 
 // A length that a list gives, if it is within 16,384, else 0.

@@ -14,7 +14,7 @@ pub const FACE_ROOM: usize = 98307;
 pub fn length_at(s: &[u8], k: usize) -> usize
     ensures { result ≤ 1000 }
 {
-    word_at(s, k).map_or(1000, |w| w.min(1000) as usize)
+    word_at(s, k).min(1000) as usize
 }
 
 // The lengths of the lists of a line: vertices, faces and work.
@@ -40,19 +40,17 @@ impl Lengths {
 }
 
 // Reads as many doubles as xs holds, from the list's first on.
-pub fn read_doubles(s: &[u8], xs: &mut [f64]) -> Option<()> {
+pub fn read_doubles(s: &[u8], xs: &mut [f64]) {
     for (i, x) in xs.iter_mut().enumerate() {
-        *x = double_at(s, i)?;
+        *x = double_at(s, i);
     }
-    Some(())
 }
 
 // Reads as many indices as xs holds, from the list's first number on, each up to its remainder by 2^32.
-pub fn read_indices(s: &[u8], xs: &mut [u32]) -> Option<()> {
+pub fn read_indices(s: &[u8], xs: &mut [u32]) {
     for (i, x) in xs.iter_mut().enumerate() {
-        *x = (word_at(s, i)? % 0x1_0000_0000) as u32;
+        *x = (word_at(s, i) % 0x1_0000_0000) as u32;
     }
-    Some(())
 }
 
 // What work holds at i before a call.
@@ -71,7 +69,7 @@ pub fn same_words(s: &[u8], words: &[u64]) -> bool {
     words
         .iter()
         .enumerate()
-        .all(|(i, word)| word_at(s, i) == Some(*word))
+        .all(|(i, word)| word_at(s, i) == *word)
 }
 
 // The three numbers of an answer, zeros where there are fewer.
@@ -82,16 +80,11 @@ pub fn refused(r: Refusal) -> Numbers {
     [crate::refused(r), 0, 0]
 }
 
-// Whether the list begins with the answer, where there is one.
-pub fn same_answer(s: &[u8], answer: Option<Numbers>) -> Option<bool> {
-    Some(same_words(s, &answer?))
-}
-
 // Whether the list begins with the entries of work.
 pub fn same_work(s: &[u8], work: &[u32]) -> bool {
     work.iter()
         .enumerate()
-        .all(|(i, entry)| word_at(s, i) == Some(u64::from(*entry)))
+        .all(|(i, entry)| word_at(s, i) == u64::from(*entry))
 }
 
 // Whether the list begins with the field's thirteen numbers.

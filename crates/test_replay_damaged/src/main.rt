@@ -36,21 +36,20 @@ fn limits() -> bool {
     zeros(20000) == Some((8, 0)) && zeros(20001) == Some((2, 0))
 }
 
-// Whether the next sheet, which these length, number and place begin, is refused by them.
-fn next_is_refused(input: &mut impl Read, head: &[u8; 12]) -> Option<bool> {
+// Whether the next sheet, which these length, number and place begin, is there and is refused by them.
+fn next_is_refused(input: &mut impl Read, head: &[u8; 12]) -> bool {
     let mut bytes = [0; 16384];
     let sheet = &mut bytes[..lines::small(sheet_layout::u32_at(head, 0))];
-    input.read_exact(sheet).ok()?;
     let number = sheet_layout::u32_at(head, 4);
     let place = sheet_layout::u32_at(head, 8);
-    Some(refusal(sheet) == Some((number, place)))
+    input.read_exact(sheet).is_ok() && refusal(sheet) == Some((number, place))
 }
 
 fn main(rt: HostRuntime) -> io::Result<()> {
     let mut output = io::writer(&rt);
     let tally = lines::replay(&mut rt.reader(), |input, tally| {
         let head: [u8; 12] = lines::read(input)?;
-        tally.count(Some(0), next_is_refused(input, &head));
+        tally.count(0, next_is_refused(input, &head));
         Some(())
     });
     tally.report_as(&mut output, 0, &["damaged sheets"], "checked")?;

@@ -16,14 +16,15 @@ fn verdict(sheet: &[u8]) -> (u32, u32) {
     }
 }
 
-// Whether the next sheet, which these length, number and place begin, has that verdict, and is written anew where it is accepted.
-fn next_holds(input: &mut impl Read, head: &[u8; 12]) -> Option<bool> {
+// Whether the next sheet, which these length, number and place begin, is there, has that verdict, and is written anew where it is accepted.
+fn next_holds(input: &mut impl Read, head: &[u8; 12]) -> bool {
     let mut bytes = [0; 16384];
     let sheet = &mut bytes[..lines::small(sheet_layout::u32_at(head, 0))];
-    input.read_exact(sheet).ok()?;
     let number = sheet_layout::u32_at(head, 4);
     let place = sheet_layout::u32_at(head, 8);
-    Some(verdict(sheet) == (number, place) && (number != 0 || test_rewrite::is_rewritten(sheet)))
+    input.read_exact(sheet).is_ok()
+        && verdict(sheet) == (number, place)
+        && (number != 0 || test_rewrite::is_rewritten(sheet))
 }
 
 fn main(rt: HostRuntime) -> io::Result<()> {
@@ -35,7 +36,7 @@ fn main(rt: HostRuntime) -> io::Result<()> {
             20 => 2,
             _ => 3,
         };
-        tally.count(Some(line), next_holds(input, &head));
+        tally.count(line, next_holds(input, &head));
         Some(())
     });
     tally.report_as(

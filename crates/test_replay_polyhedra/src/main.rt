@@ -24,7 +24,7 @@ fn same_answer(expected: &[u8], answer: Result<Newtonian, Refusal>) -> bool {
 }
 
 // Whether the answer and work are right. `line` is the rest of a line of those lengths.
-fn agrees(line: &[u8], lengths: Lengths) -> Option<bool> {
+fn agrees(line: &[u8], lengths: Lengths) -> bool {
     let Lengths {
         vertices: v,
         faces: f,
@@ -38,12 +38,12 @@ fn agrees(line: &[u8], lengths: Lengths) -> Option<bool> {
     let faces = &mut faces[..f];
     let work = &mut work[..n];
     let lists = from_place(line, 3);
-    runs::read_doubles(lists, verts)?;
-    runs::read_indices(from_place(lists, v), faces)?;
+    runs::read_doubles(lists, verts);
+    runs::read_indices(from_place(lists, v), faces);
     runs::mark(work);
-    let answer = polyhedron::polyhedron(vector_at(line, 0)?, verts, faces, work);
+    let answer = polyhedron::polyhedron(vector_at(line, 0), verts, faces, work);
     let expected = from_place(lists, v + f);
-    Some(same_answer(expected, answer) && runs::same_work(from_place(expected, 13), work))
+    same_answer(expected, answer) && runs::same_work(from_place(expected, 13), work)
 }
 
 // The number of the refusal of v zeros as vertices and f zeros as faces, if there is one.
@@ -71,7 +71,7 @@ fn main(rt: HostRuntime) -> io::Result<()> {
     let tally = lines::replay(&mut rt.reader(), |input, tally| {
         let head: [u8; 51] = lines::read(input)?;
         let agrees = lines::next_agrees(input, Lengths::of(&head), 16, agrees);
-        tally.count(Some(0), agrees);
+        tally.count(0, agrees);
         Some(())
     });
     tally.report(&mut output, 0, &["polyhedron"])?;

@@ -7,23 +7,19 @@ use std::io;
 use test_replay::{from_place, lines, runs, vector_at};
 
 // Whether the line's answer is the answer to its arguments.
-fn agrees(line: &[u8]) -> Option<bool> {
-    let answer = prism::prism(
-        vector_at(line, 0)?,
-        vector_at(line, 3)?,
-        vector_at(line, 6)?,
-    );
+fn agrees(line: &[u8]) -> bool {
+    let answer = prism::prism(vector_at(line, 0), vector_at(line, 3), vector_at(line, 6));
     let expected = from_place(line, 9);
     match answer {
-        Ok(f) => Some(runs::same_field(expected, f)),
-        Err(r) => Some(runs::same_words(expected, &[test_replay::refused(r)])),
+        Ok(f) => runs::same_field(expected, f),
+        Err(r) => runs::same_words(expected, &[test_replay::refused(r)]),
     }
 }
 
 fn main(rt: HostRuntime) -> io::Result<()> {
     let tally = lines::replay(&mut rt.reader(), |input, tally| {
         let line: [u8; 374] = lines::read(input)?;
-        tally.count(Some(0), agrees(&line));
+        tally.count(0, agrees(&line));
         Some(())
     });
     tally.report(&mut io::writer(&rt), 0, &["prism"])

@@ -18,7 +18,7 @@ use test_replay::{from_place, lines, runs, word_at};
 const PROFILE_BYTES: usize = 425;
 
 // Whether the answer to a profile, work and fields are right.
-fn agrees(given: &Profile) -> Option<bool>
+fn agrees(given: &Profile) -> bool
     requires { given.now.vertices ≤ 1000 }
 {
     let mut verts = [0.0; 1000];
@@ -31,34 +31,35 @@ fn agrees(given: &Profile) -> Option<bool>
     let stations = &mut stations[..runs::length_at(given.line, 0)];
     let work = &mut work[..runs::length_at(given.line, 1)];
     let fields = &mut fields[..runs::length_at(given.line, 2)];
-    runs::read_doubles(given.body, verts)?;
-    runs::read_indices(from_place(given.body, given.vertices), faces)?;
-    given.read_stations(stations)?;
+    runs::read_doubles(given.body, verts);
+    runs::read_indices(from_place(given.body, given.vertices), faces);
+    given.read_stations(stations);
     runs::mark(work);
     test_records::mark_fields(fields);
     let cause = profile::profile(stations, verts, faces, work, fields);
-    Some(given.same_cause(cause) && given.same_lists(work, fields))
+    given.same_cause(cause) && given.same_lists(work, fields)
 }
 
 // The same of the next line, a profile of the body; one that is not there differs.
-fn next_agrees(input: &mut impl Read, body: &[u8], vertices: usize, faces: usize) -> Option<bool>
+fn next_agrees(input: &mut impl Read, body: &[u8], vertices: usize, faces: usize) -> bool
     requires { (vertices ≤ 1000) × (faces ≤ 1000) }
 {
-    let line: [u8; PROFILE_BYTES] = lines::read(input)?;
-    agrees(&Profile {
-        body,
-        line: &line,
-        vertices,
-        faces,
-        order: vertices + faces,
-    })
+    let mut line = [0; PROFILE_BYTES];
+    input.read_exact(&mut line).is_ok()
+        && agrees(&Profile {
+            body,
+            line: &line,
+            vertices,
+            faces,
+            order: vertices + faces,
+        })
 }
 
 // A length that a list gives, up to 3800: so many numbers fill a large buffer.
 fn body_length(head: &[u8]) -> usize
     ensures { result ≤ 3800 }
 {
-    word_at(head, 2).map_or(3800, |w| w.min(3800) as usize)
+    word_at(head, 2).min(3800) as usize
 }
 
 // The body that a first line begins, and its profiles, as many as that line says, which the loop counts. A body that is not there differs.
@@ -66,13 +67,13 @@ fn replay_body(input: &mut impl Read, tally: &mut Tally, head: &[u8]) {
     let mut bytes = [0; 65536];
     let body = &mut bytes[..17 * body_length(head)];
     if input.read_exact(body).is_err() {
-        tally.count(Some(0), None);
+        tally.count(0, false);
         return;
     }
     for _ in 0..runs::length_at(head, 3) {
         let vertices = runs::length_at(head, 0);
         let faces = runs::length_at(head, 1);
-        tally.count(Some(0), next_agrees(input, body, vertices, faces));
+        tally.count(0, next_agrees(input, body, vertices, faces));
     }
 }
 

@@ -24,18 +24,20 @@ fn is_accepted(sheet: &[u8]) -> bool
         })
 }
 
-// Whether the next sheet, of that length, is accepted and written anew.
-fn next_holds(input: &mut impl Read, length: u32) -> Option<bool> {
+// Whether the next sheet, of that length, is there, is accepted and is written anew.
+fn next_holds(input: &mut impl Read, length: u32) -> bool {
     let mut bytes = [0; 16384];
     let sheet = &mut bytes[..lines::small(length)];
-    input.read_exact(sheet).ok()?;
-    Some(sheet.len() >= TRAILER_LENGTH && is_accepted(sheet) && test_rewrite::is_rewritten(sheet))
+    input.read_exact(sheet).is_ok()
+        && sheet.len() >= TRAILER_LENGTH
+        && is_accepted(sheet)
+        && test_rewrite::is_rewritten(sheet)
 }
 
 fn main(rt: HostRuntime) -> io::Result<()> {
     let tally = lines::replay(&mut rt.reader(), |input, tally| {
         let head: [u8; 4] = lines::read(input)?;
-        tally.count(Some(0), next_holds(input, u32::from_le_bytes(head)));
+        tally.count(0, next_holds(input, u32::from_le_bytes(head)));
         Some(())
     });
     tally.report_as(

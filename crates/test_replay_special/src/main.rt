@@ -25,20 +25,20 @@ fn average(answer: Result<RingAverage, Refusal>) -> Numbers {
     answer.map_or_else(refused, |a| [a.v, a.drho, a.dz].map(doubles::to_bits))
 }
 
-// The answer of the call to the line's arguments. A number of the list is met here alone: an enum of the calls would be matched twice.
-fn answer(line: &[u8]) -> Option<Numbers> {
-    let x = double_at(line, 1)?;
-    let y = double_at(line, 2)?;
-    let z = double_at(line, 3)?;
-    let p = double_at(line, 4)?;
-    match word_at(line, 0)? {
-        1 => Some(integral(special::carlson_rf(x, y, z))),
-        2 => Some(integral(special::carlson_rd(x, y, z))),
-        3 => Some(integral(special::carlson_rj(x, y, z, p))),
-        4 => Some(complete(rings::complete_elliptic(x))),
-        5 => Some(integral(rings::cel(x, y, z, p))),
-        6 => Some(average(rings::ring(x, y, z))),
-        _ => None,
+// The answer of the call to the line's arguments. A number of the list is met here alone: an enum of the calls would be matched twice. Another
+// call's answer is that of the last: its lines are not reported.
+fn answer(line: &[u8]) -> Numbers {
+    let x = double_at(line, 1);
+    let y = double_at(line, 2);
+    let z = double_at(line, 3);
+    let p = double_at(line, 4);
+    match word_at(line, 0) {
+        1 => integral(special::carlson_rf(x, y, z)),
+        2 => integral(special::carlson_rd(x, y, z)),
+        3 => integral(special::carlson_rj(x, y, z, p)),
+        4 => complete(rings::complete_elliptic(x)),
+        5 => integral(rings::cel(x, y, z, p)),
+        _ => average(rings::ring(x, y, z)),
     }
 }
 
@@ -47,7 +47,7 @@ fn main(rt: HostRuntime) -> io::Result<()> {
         let line: [u8; 136] = lines::read(input)?;
         tally.count(
             word_at(&line, 0),
-            runs::same_answer(from_place(&line, 5), answer(&line)),
+            runs::same_words(from_place(&line, 5), &answer(&line)),
         );
         Some(())
     });

@@ -2,11 +2,11 @@
 // Lengths and counts stay numbers side by side: they alone decide the causes, which compare them one with another, and a `Source` would ask for the lists too. A kind stays its number (sheet_rows/src/kinds.rt).
 #![tactic(auto)]
 
-ghost use Rattle.std.specs.Prelude.{◌≡◌, ◌+◌, ◌≤◌};
+ghost use Rattle.std.specs.Prelude.{◌≡◌, List, ℕ, ◌+◌, ◌≤◌};
 ghost use Rattle.mesh_orders.specs.Edges.{max_vertices, max_faces, max_stations};
 ghost use Rattle.sheet.specs.Bytes.{trailer_length, pointer_of};
 ghost use Rattle.sheet.specs.Writer.{out_of_limits};
-ghost use Rattle.sheet.specs.Input.{SheetInput, source_input};
+ghost use Rattle.sheet.specs.Input.{SheetInput, input_of, source_input};
 ghost use Rattle.writer_causes.specs.LengthsCause.{well_formed, Lengths, lengths_cause};
 
 use refusals::Refusal;
@@ -68,7 +68,8 @@ pub fn lengths_cause(
 
 // Kind and faces play no part.
 pub fn number_cause(source: &Source) -> Result<(), Refusal>
-    ensures { result ≡ out_of_limits (source_input source.now) }
+    ensures { let s = source_input source.now in
+        (k : ℕ) (f : List ℕ) → result ≡ out_of_limits (input_of k s.vertices f s.magnetisation s.ambient s.stations) }
 {
     mesh::scan::out_of_limits(source.verts)?;
     if !anomaly::both_within_limits(source.magnetisation, source.ambient) {

@@ -36,11 +36,11 @@ returns-in_err-number_cause c =
     let p = err_from_is_err_and c.from_residual-in_err-number_cause.result c.from_residual-in_err-number_cause.ensures.1 in
     rw (p.1, p.2) (by_limits _
     (typed (search rules) (λ i. c.shared_slice_known-1.given i) (λ i. (s.given i).fits) (search rules, (search rules, search rules)) (search rules, (search rules, search rules)) (λ i. c.shared_slice_known-3-1.given i))
-    _ _ _ (sym (c.lengths_cause.ensures _ lengths) ∙ c.in_ok-lengths_cause.was) (sym c.number_cause.ensures ∙ c.in_err-number_cause.was))
+    _ _ _ (sym (c.lengths_cause.ensures _ lengths) ∙ c.in_ok-lengths_cause.was) (sym (c.number_cause.ensures _ _) ∙ c.in_err-number_cause.was))
 
 pub returns : goal.returns
 returns c =
     let s = c.shared_slice_known-2-1 in
     later _
     (typed (search rules) (λ i. c.shared_slice_known-1.given i) (λ i. (s.given i).fits) (search rules, (search rules, search rules)) (search rules, (search rules, search rules)) (λ i. c.shared_slice_known-3-1.given i))
-    _ _ (sym (c.lengths_cause.ensures _ lengths) ∙ c.in_ok-lengths_cause.was) (sym c.number_cause.ensures ∙ c.in_ok-number_cause.was) c.write_counted.ensures
+    _ _ (sym (c.lengths_cause.ensures _ lengths) ∙ c.in_ok-lengths_cause.was) (sym (c.number_cause.ensures _ _) ∙ c.in_ok-number_cause.was) c.write_counted.ensures

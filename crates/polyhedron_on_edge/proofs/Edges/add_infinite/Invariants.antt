@@ -1,8 +1,0 @@
--- `polyhedron_on_edge::Edges::add_infinite` meets its contract: what the edges still to come add to the sums is what all of them add. Assumes nothing.
-use Rattle.std.proofs.Common.{◌≡◌, List, drop}
-use Rattle.polyhedron_on_edge.specs.Held.{HoldsEdges}
-use Rattle.polyhedron_on_edge.specs.OnEdge.{Edge, add_infinite}
-use Rattle.polyhedron_on_edge.proofs.Edges.add_infinite.Given as goal
-
-abbrev pub invariant-loop-d : goal.invariant-loop-d
-invariant-loop-d l = (es : List Edge) → HoldsEdges es l.self → add_infinite (drop l.d-index es) l.sums ≡ add_infinite es l.initial.sums
