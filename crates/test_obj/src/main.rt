@@ -100,7 +100,7 @@ fn next_agrees(input: &mut impl Read, head: &[u8]) -> bool {
 
 fn main(rt: HostRuntime) -> io::Result<()> {
     let mut output = io::writer(&rt);
-    let tally = lines::replay(&mut rt.reader(), |input, tally| {
+    let tally = lines::replay_limited(&mut rt.reader(), |input, tally| {
         let head: [u8; 136] = lines::read(input)?;
         tally.count(word_at(&head, 0), next_agrees(input, &head));
         Some(())

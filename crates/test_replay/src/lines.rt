@@ -66,11 +66,28 @@ pub fn read<const N: usize>(input: &mut impl Read) -> Option<[u8; N]> {
     Some(bytes)
 }
 
-// At most so many lines of a list are replayed, and what follows them is not read: an input without end has a report too.
-const MOST_LINES: usize = 1_000_000;
-
 // Goes through a list, of which `next` reads and counts a line, until it finds none.
 pub fn replay<R: Read, F: FnMut(&mut R, &mut Tally) -> Option<()>>(
+    input: &mut R,
+    mut next: F,
+) -> Tally
+    requires callable { F.IsAlwaysCallable next }
+{
+    let mut tally = Tally::default();
+    // A proved loop has to end: the turns are counted up to a number that no list reaches.
+    for _ in 0..u64::MAX {
+        if next(input, &mut tally).is_none() {
+            break;
+        }
+    }
+    tally
+}
+
+// At most so many lines of a list are replayed by the programs, and what follows them is not read: an input without end has a report too.
+const MOST_LINES: usize = 1_000_000;
+
+// Goes through a list's first MOST_LINES lines, or until it finds none.
+pub fn replay_limited<R: Read, F: FnMut(&mut R, &mut Tally) -> Option<()>>(
     input: &mut R,
     mut next: F,
 ) -> Tally
@@ -106,4 +123,31 @@ pub fn small(n: u32) -> usize
     ensures { result ≤ 16384 }
 {
     if n <= 16384 { n as usize } else { 0 }
+}
+
+#[cfg(test)]
+mod tests {
+    use super::*;
+
+    #[test]
+    fn more_lines_than_the_programs_replay(rt: HostRuntime) {
+        let mut list: &[u8] = &[];
+        let mut left = 1_000_001u64;
+        let tally = replay(&mut list, |_, tally| {
+            left = left.checked_sub(1)?;
+            tally.count(0, true);
+            Some(())
+        });
+        assert_eq!(rt; tally.calls[0].compared, 1_000_001);
+    }
+
+    #[test]
+    fn a_list_without_end(rt: HostRuntime) {
+        let mut list: &[u8] = &[];
+        let tally = replay_limited(&mut list, |_, tally| {
+            tally.count(0, true);
+            Some(())
+        });
+        assert_eq!(rt; tally.calls[0].compared, 1_000_000);
+    }
 }

@@ -24,7 +24,7 @@ fn answer(line: &[u8]) -> u64 {
 }
 
 fn main(rt: HostRuntime) -> io::Result<()> {
-    let tally = lines::replay(&mut rt.reader(), |input, tally| {
+    let tally = lines::replay_limited(&mut rt.reader(), |input, tally| {
         let line: [u8; 68] = lines::read(input)?;
         tally.count(word_at(&line, 0), word_at(&line, 3) == answer(&line));
         Some(())

@@ -47,7 +47,7 @@ fn next_is_refused(input: &mut impl Read, head: &[u8; 12]) -> bool {
 
 fn main(rt: HostRuntime) -> io::Result<()> {
     let mut output = io::writer(&rt);
-    let tally = lines::replay(&mut rt.reader(), |input, tally| {
+    let tally = lines::replay_limited(&mut rt.reader(), |input, tally| {
         let head: [u8; 12] = lines::read(input)?;
         tally.count(0, next_is_refused(input, &head));
         Some(())

@@ -69,7 +69,7 @@ fn limits() -> bool {
 
 fn main(rt: HostRuntime) -> io::Result<()> {
     let mut output = io::writer(&rt);
-    let tally = lines::replay(&mut rt.reader(), |input, tally| {
+    let tally = lines::replay_limited(&mut rt.reader(), |input, tally| {
         let head: [u8; 51] = lines::read(input)?;
         let agrees = lines::next_agrees(input, Lengths::of(&head), 3, agrees);
         tally.count(0, agrees);

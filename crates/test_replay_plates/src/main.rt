@@ -28,7 +28,7 @@ fn next_holds(input: &mut impl Read, head: &[u8; 12]) -> bool {
 }
 
 fn main(rt: HostRuntime) -> io::Result<()> {
-    let tally = lines::replay(&mut rt.reader(), |input, tally| {
+    let tally = lines::replay_limited(&mut rt.reader(), |input, tally| {
         let head: [u8; 12] = lines::read(input)?;
         let line = match sheet_layout::u32_at(&head, 4) {
             0 => 0,

@@ -17,7 +17,7 @@ fn agrees(line: &[u8]) -> bool {
 }
 
 fn main(rt: HostRuntime) -> io::Result<()> {
-    let tally = lines::replay(&mut rt.reader(), |input, tally| {
+    let tally = lines::replay_limited(&mut rt.reader(), |input, tally| {
         let line: [u8; 374] = lines::read(input)?;
         tally.count(0, agrees(&line));
         Some(())

@@ -112,7 +112,7 @@ fn limits() -> bool {
 
 fn main(rt: HostRuntime) -> io::Result<()> {
     let mut output = io::writer(&rt);
-    let tally = lines::replay(&mut rt.reader(), |input, tally| {
+    let tally = lines::replay_limited(&mut rt.reader(), |input, tally| {
         let head: [u8; 68] = lines::read(input)?;
         replay_body(input, tally, &head);
         Some(())

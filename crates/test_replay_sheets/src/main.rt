@@ -35,7 +35,7 @@ fn next_holds(input: &mut impl Read, length: u32) -> bool {
 }
 
 fn main(rt: HostRuntime) -> io::Result<()> {
-    let tally = lines::replay(&mut rt.reader(), |input, tally| {
+    let tally = lines::replay_limited(&mut rt.reader(), |input, tally| {
         let head: [u8; 4] = lines::read(input)?;
         tally.count(0, next_holds(input, u32::from_le_bytes(head)));
         Some(())

@@ -43,7 +43,7 @@ fn answer(line: &[u8]) -> Numbers {
 }
 
 fn main(rt: HostRuntime) -> io::Result<()> {
-    let tally = lines::replay(&mut rt.reader(), |input, tally| {
+    let tally = lines::replay_limited(&mut rt.reader(), |input, tally| {
         let line: [u8; 136] = lines::read(input)?;
         tally.count(
             word_at(&line, 0),
